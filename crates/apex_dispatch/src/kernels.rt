@@ -28,13 +28,24 @@ use std::io;
 use std::marker::Model;
 
 /// The kernel of one partition, over any store of its processes: its situation, and a log.
-#[derive(Drop)]
 pub struct Kernel<S: Store> {
     table: Table,
     situation: Situation<S>,
     log: Log,
     /// The notices of the latest event.
     notices: Notices,
+}
+
+// Whoever owns a kernel lets it go in one step, and not in one for each field.
+impl<S: Store> Drop for Kernel<S> {
+    fn drop(self) {
+        let Kernel {
+            table: _table,
+            situation: _situation,
+            log: _log,
+            notices: _notices,
+        } = self;
+    }
 }
 
 impl<S: Store> Model for Kernel<S> {
@@ -316,16 +327,12 @@ impl<S: Store> Kernel<S> {
     pub fn into_table(self) -> Table
         ensures { result ≡ self.table }
     {
-        let Kernel { table, .. } = self;
+        let Kernel {
+            table,
+            situation: _situation,
+            log: _log,
+            notices: _notices,
+        } = self;
         table
-    }
-
-    /// The table and the history, whose events another kernel of the table may be asked for.
-    pub fn into_parts(self) -> (Table, Log)
-        ensures table { result.0 ≡ self.table }
-        ensures history { result.1.entries ≡ self.machine.history }
-    {
-        let Kernel { table, log, .. } = self;
-        (table, log)
     }
 }

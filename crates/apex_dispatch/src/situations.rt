@@ -27,13 +27,24 @@ use std::marker::Model;
 /// The situation of a partition, over any store of its processes: all on which its future depends.
 ///
 /// It has no history. A [`Kernel`](crate::Kernel) is a situation with a log.
-#[derive(Drop)]
 pub struct Situation<S: Store> {
     store: S,
     objects: Objects,
     works: Works,
     /// The number of init steps that were carried out.
     made: usize,
+}
+
+// Whoever owns a situation lets it go in one step, and not in one for each field.
+impl<S: Store> Drop for Situation<S> {
+    fn drop(self) {
+        let Situation {
+            store: _store,
+            objects: _objects,
+            works: _works,
+            made: _made,
+        } = self;
+    }
 }
 
 impl<S: Store> Model for Situation<S> {

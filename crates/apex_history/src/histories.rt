@@ -11,13 +11,24 @@ use std::alloc::{AllocError, Global};
 use std::marker::Model;
 
 /// The entries of one history, the oldest first, up to a limit that is set beforehand.
-#[derive(Drop)]
 pub struct Log {
     stored: Vec<StoredEntry>,
     calls: Calls,
     /// The notices of all entries, one behind the other.
     notices: Vec<Notice>,
     limit: u32,
+}
+
+// Whoever owns a log lets it go in one step, and not in one for each field.
+impl Drop for Log {
+    fn drop(self) {
+        let Log {
+            stored: _stored,
+            calls: _calls,
+            notices: _notices,
+            limit: _limit,
+        } = self;
+    }
 }
 
 impl Model for Log {

@@ -25,12 +25,23 @@ use std::marker::Model;
 /// call compares two stamps. A process that begins to wait in a queue of discipline PRIORITY walks
 /// that queue, and one with a due or a deadline walks their line; only a mode other than NORMAL
 /// walks all processes.
-#[derive(Drop)]
 pub struct QueueStore {
     records: PlainStore,
     lists: Lists,
     timers: Timers,
     owners: Owners,
+}
+
+// Whoever owns a store lets it go in one step, and not in one for each field.
+impl Drop for QueueStore {
+    fn drop(self) {
+        let QueueStore {
+            records: _records,
+            lists: _lists,
+            timers: _timers,
+            owners: _owners,
+        } = self;
+    }
 }
 
 impl Model for QueueStore {

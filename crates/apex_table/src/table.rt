@@ -16,7 +16,6 @@ use apex_types::{BlackboardId, BufferId, Call, EventId, MutexId, Origin, Process
 use std::marker::Model;
 
 /// A partition's table. Its type ensures that every range and every reference in it is right.
-#[derive(Drop)]
 pub struct Table {
     profile: Profile,
     cores: u8,
@@ -26,6 +25,21 @@ pub struct Table {
     init: Vec<Step>,
     /// The texts of the steps of all scripts, by process.
     texts: Vec<ScriptTexts>,
+}
+
+// Whoever owns a table lets it go in one step, and not in one for each field.
+impl Drop for Table {
+    fn drop(self) {
+        let Table {
+            profile: _profile,
+            cores: _cores,
+            limit: _limit,
+            processes: _processes,
+            objects: _objects,
+            init: _init,
+            texts: _texts,
+        } = self;
+    }
 }
 
 impl Model for Table {
