@@ -1,4 +1,5 @@
-//! The counters of a trace: the value of a semaphore, and the number of messages in a buffer.
+//! The counters of a trace: the value of a semaphore, and the number of messages in a buffer. And
+//! the marks of its notices.
 
 use crate::scans::booted;
 use apex_history::Counted;
@@ -45,14 +46,49 @@ const COUNTERS: [&str; 4] = [
     r#","pid":3,"ts":8,"name":"buffer B","args":{"messages":1}},"#,
 ];
 
-/// The trace of eight turns.
-fn trace_of<R: Abort>(rt: &R, alloc: Global) -> Vec<u8> {
-    let table = read_table(alloc, TABLE.as_bytes()).expect(rt, "the table is lawful");
+/// The eight init steps create the semaphore and both processes and start these. HIGH then waits,
+/// LOW signals, and HIGH waits once more, until its time runs out.
+const NOTICES_TABLE: &str = r#"
+cores = 1
+
+[[process]]
+name = "HIGH"
+priority = 20
+start = true
+script = ["WAIT_SEMAPHORE S 3", "WAIT_SEMAPHORE S 3"]
+
+[[process]]
+name = "LOW"
+priority = 10
+start = true
+script = ["SIGNAL_SEMAPHORE S"]
+
+[[semaphore]]
+name = "S"
+maximum = 2
+initial = 0
+discipline = "FIFO"
+"#;
+
+/// By this a line of the trace is a mark.
+const MARK: &str = "\"ph\":\"i\"";
+
+/// What follows that in each of these lines. Both processes are released by entry 8, LOW wakes HIGH
+/// by entry 10, and the tick that ends HIGH's wait is entry 12, of time 3.
+const MARKS: [&str; 4] = [
+    r#","s":"t","pid":2,"tid":1,"ts":8,"args":{"now":0},"name":"released"},"#,
+    r#","s":"t","pid":2,"tid":2,"ts":8,"args":{"now":0},"name":"released"},"#,
+    r#","s":"t","pid":2,"tid":1,"ts":10,"args":{"now":0},"name":"woken NO_ERROR"},"#,
+    r#","s":"t","pid":2,"tid":1,"ts":3000,"args":{"now":3},"name":"woken TIMED_OUT"},"#,
+];
+
+/// The trace of these events.
+fn trace_of<R: Abort>(rt: &R, alloc: Global, table: &str, events: &[Event]) -> Vec<u8> {
+    let table = read_table(alloc, table.as_bytes()).expect(rt, "the table is lawful");
     assert!(rt; table.cores() == 1);
     let mut kernel = booted(rt, alloc, table);
-    let turns = [Event::Turn(CoreId::new(0)); 8];
     let mut trace = Counted::new(Vec::new(alloc));
-    let drawn = draw(alloc, &Style::Trace, &mut kernel, &turns, &mut trace);
+    let drawn = draw(alloc, &Style::Trace, &mut kernel, events, &mut trace);
     drop(kernel);
     drawn.expect(rt, "memory");
     trace.into_inner()
@@ -68,11 +104,25 @@ fn behind<'t>(text: &'t str, word: &str) -> Option<&'t str> {
 
 #[test]
 fn counters_follow_the_objects(rt: HostRuntime) {
-    let trace = trace_of(&rt, rt.alloc());
+    let turns = [Event::Turn(CoreId::new(0)); 8];
+    let trace = trace_of(&rt, rt.alloc(), TABLE, &turns);
     let mut rest = str::from_utf8(trace.as_slice()).expect(&rt, "a trace is text");
     for counter in COUNTERS {
         rest = behind(rest, COUNTER).expect(&rt, "another counter");
         assert!(rt; rest.starts_with(counter));
     }
     assert!(rt; behind(rest, COUNTER).is_none());
+}
+
+#[test]
+fn notices_have_marks(rt: HostRuntime) {
+    let mut events = [Event::Turn(CoreId::new(0)); 12];
+    events[11] = Event::Tick(3);
+    let trace = trace_of(&rt, rt.alloc(), NOTICES_TABLE, &events);
+    let mut rest = str::from_utf8(trace.as_slice()).expect(&rt, "a trace is text");
+    for mark in MARKS {
+        rest = behind(rest, MARK).expect(&rt, "another mark");
+        assert!(rt; rest.starts_with(mark));
+    }
+    assert!(rt; behind(rest, MARK).is_none());
 }

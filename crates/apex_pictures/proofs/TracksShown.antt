@@ -99,7 +99,7 @@ pub column_same : (table : Table) (time : ℕ) (before : Shown) (entry : Entry) 
     → trace.column_text table time (bare before) entry (bare after) ≡ trace.column_text table time before entry after
 column_same table time before entry after =
     ap (λ l. l ++ counters_text table time before.counts after.counts
-    ++ flat_map (trace.missed_text time entry.now) entry.notices)
+    ++ flat_map (trace.marked_text time entry.now) entry.notices)
     (changes_same table time entry.now before after)
 
 -- what comes after the columns
@@ -130,11 +130,11 @@ follow_fits Trace tracks shown table follows counts cores =
 pub column_whole : (table : Table) (time : ℕ) (before : Shown) (entry : Entry) (after : Shown) (text one two whole : List ℕ)
     → one ≡ text ++ trace.changes_text table time entry.now before after
     → two ≡ one ++ counters_text table time before.counts after.counts
-    → whole ≡ two ++ flat_map (trace.missed_text time entry.now) entry.notices
+    → whole ≡ two ++ flat_map (trace.marked_text time entry.now) entry.notices
     → whole ≡ text ++ trace.column_text table time before entry after
 column_whole table time before entry after text one two whole changes counters marks =
     let changed = trace.changes_text table time entry.now before after in
     let counted = counters_text table time before.counts after.counts in
-    let missed = flat_map (trace.missed_text time entry.now) entry.notices in
-    marks ∙ ap (λ l. l ++ missed) (counters ∙ ap (λ l. l ++ counted) changes)
-    ∙ ap (λ l. l ++ missed) (append_assoc text changed counted) ∙ append_assoc text (changed ++ counted) missed
+    let marked = flat_map (trace.marked_text time entry.now) entry.notices in
+    marks ∙ ap (λ l. l ++ marked) (counters ∙ ap (λ l. l ++ counted) changes)
+    ∙ ap (λ l. l ++ marked) (append_assoc text changed counted) ∙ append_assoc text (changed ++ counted) marked

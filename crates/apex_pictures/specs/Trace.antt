@@ -3,7 +3,7 @@
 -- partition's time is an argument too.
 use Rattle.std.specs.Prelude.{ℕ, ◌+◌, Bool, true, false, List, [], ◌∷◌, ◌++◌, Option, None, Some, is_some, codes, decimal, flat_map, length, slice_index_or, if◌then◌else◌, ◌==◌}
 use Rattle.apex_machine.specs.text.Texts.{id_text, process_name}
-use Rattle.apex_calls.specs.Lines.{deadline_text}
+use Rattle.apex_calls.specs.Lines.{code_text, deadline_text}
 use Rattle.apex_machine.specs.text.Listing.{texts_of}
 use Rattle.apex_machine.specs.text.Status.{state_text}
 use Rattle.apex_machine.specs.table.Table.{Table}
@@ -151,12 +151,12 @@ mark_text time now p word detail =
     codes ",\n{\"ph\":\"i\",\"s\":\"t\",\"pid\":2,\"tid\":" ++ id_text p ++ begin_back time now ++ word
     ++ detail ++ codes "\"}"
 
--- the mark of a notice of a missed deadline; other notices have none
-abbrev pub missed_text : ℕ → ℕ → Notice → List ℕ
-missed_text time now (Missed p kind) =
+-- the mark of a notice: its word, and the code or the type of the deadline
+abbrev pub marked_text : ℕ → ℕ → Notice → List ℕ
+marked_text time now (Woken p code) = mark_text time now p (codes "woken ") (code_text code)
+marked_text time now (Released p) = mark_text time now p (codes "released") []
+marked_text time now (Missed p kind) =
     mark_text time now p (codes "missed ") (deadline_text kind)
-missed_text time now (Woken p code) = []
-missed_text time now (Released p) = []
 
 -- the changes on all tracks
 abbrev pub changes_text : Table → ℕ → ℕ → Shown → Shown → List ℕ
@@ -164,12 +164,12 @@ changes_text table time now before after =
     texts_of (core_at table time now before after) table.cores
     ++ texts_of (process_at time now before after) (length table.processes)
 
--- the changes by an entry on the tracks and of the counters, and the marks of the deadlines that were missed
+-- the changes by an entry on the tracks and of the counters, and the marks of its notices
 abbrev pub column_text : Table → ℕ → Shown → Entry → Shown → List ℕ
 column_text table time before entry after =
     changes_text table time entry.now before after
     ++ counters_text table time before.counts after.counts
-    ++ flat_map (missed_text time entry.now) entry.notices
+    ++ flat_map (marked_text time entry.now) entry.notices
 
 -- what comes after the columns: the ends of all slices
 abbrev pub foot_text : Table → ℕ → ℕ → Shown → List ℕ

@@ -20,7 +20,7 @@ use crate::pieces::{Piece, add, add_number, add_text};
 use crate::stamps::{BEGIN_ROOM, END_ROOM, FRONT, Stamp, begin_front, end_front};
 use crate::texts::{Part, put, put_all};
 use crate::tracks::{Track, Tracks, state_on, track_of};
-use crate::words::{deadline_word, id_part, name_of, put_id};
+use crate::words::{code_word, deadline_word, id_part, name_of, put_id};
 use apex_dispatch::Kernel;
 use apex_json::{MOST_ESCAPE, add_json};
 use apex_store::Store;
@@ -484,8 +484,8 @@ fn put_mark(
     put(text, "\"}")
 }
 
-/// Puts the mark of a notice of a missed deadline; other notices have none.
-fn put_missed(
+/// Puts the mark of a notice: its word, and the code or the type of the deadline.
+fn put_marked(
     text: &mut Vec<u8>,
     time: u64,
     stamp: &Stamp,
@@ -493,9 +493,13 @@ fn put_missed(
 ) -> Result<(), AllocError>
     requires { IsStamp stamp.now time }
     ensures { OnOk result (text.new.items ≡ text.old.items
-        ++ trace.missed_text time stamp.now.ticks notice.now) }
+        ++ trace.marked_text time stamp.now.ticks notice.now) }
 {
     match notice {
+        Notice::Woken(process, code) => {
+            put_mark(text, time, stamp, *process, "woken ", code_word(*code))
+        }
+        Notice::Released(process) => put_mark(text, time, stamp, *process, "released", ""),
         Notice::Missed(process, deadline) => {
             put_mark(
                 text,
@@ -506,11 +510,10 @@ fn put_missed(
                 deadline_word(*deadline),
             )
         }
-        Notice::Woken(_, _) | Notice::Released(_) => Ok(()),
     }
 }
 
-fn put_misses(
+fn put_marks(
     text: &mut Vec<u8>,
     time: u64,
     stamp: &Stamp,
@@ -518,17 +521,16 @@ fn put_misses(
 ) -> Result<(), AllocError>
     requires { IsStamp stamp.now time }
     ensures { OnOk result (text.new.items ≡ text.old.items
-        ++ flat_map (trace.missed_text time stamp.now.ticks) notices.now) }
+        ++ flat_map (trace.marked_text time stamp.now.ticks) notices.now) }
 {
     for notice in notices {
-        put_missed(text, time, stamp, notice)?;
+        put_marked(text, time, stamp, notice)?;
     }
     Ok(())
 }
 
-/// Puts the changes by the latest entry on the tracks and of the counters, and the marks of the
-/// deadlines that were missed, at this time. `shown` are the tracks before it, and then those after
-/// it.
+/// Puts the changes by the latest entry on the tracks and of the counters, and the marks of its
+/// notices, at this time. `shown` are the tracks before it, and then those after it.
 #[tactic(auto, using(std::proofs::Common::append_assoc))]
 pub(crate) fn put_column<S: Store>(
     text: &mut Vec<u8>,
@@ -551,7 +553,7 @@ pub(crate) fn put_column<S: Store>(
     let stamp = Stamp::new(time, entry.now);
     shown.put_changes(text, table, kernel.store(), time, &stamp)?;
     shown.put_counts(text, kernel, time)?;
-    put_misses(text, time, &stamp, entry.notices)
+    put_marks(text, time, &stamp, entry.notices)
 }
 
 /// Puts what comes after the columns: the ends of all slices.

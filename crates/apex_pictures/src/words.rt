@@ -3,14 +3,14 @@ ghost use Rattle.std.specs.Prelude.{◌≡◌, ◌≤◌, ◌++◌, length, OnOk
 ghost use Rattle.apex_types.specs.declared.limits.TheConstants.{MOST_NAME};
 ghost use Rattle.apex_machine.specs.text.Texts.{id_text, process_name};
 ghost use Rattle.apex_pictures.specs.Texts.{part_text};
-ghost use Rattle.apex_calls.specs.Lines.{deadline_text};
+ghost use Rattle.apex_calls.specs.Lines.{code_text, deadline_text};
 ghost use Rattle.apex_machine.specs.text.Status.{state_text, wait_text};
 ghost use Rattle.apex_pictures.specs.Svg.{notice_word};
 
 use crate::texts::{Part, put, put_number};
 use apex_machine::Wait;
 use apex_table::Table;
-use apex_types::{DeadlineType, Id, Notice, ProcessId, State};
+use apex_types::{DeadlineType, Id, Notice, ProcessId, ReturnCode, State};
 use std::alloc::AllocError;
 
 pub(crate) fn state_word(state: State) -> &'static str
@@ -30,6 +30,20 @@ pub(crate) fn deadline_word(deadline: DeadlineType) -> &'static str
     match deadline {
         DeadlineType::Soft => "soft",
         DeadlineType::Hard => "hard",
+    }
+}
+
+pub(crate) fn code_word(code: ReturnCode) -> &'static str
+    ensures { result.now ≡ code_text code }
+{
+    match code {
+        ReturnCode::NoError => "NO_ERROR",
+        ReturnCode::NoAction => "NO_ACTION",
+        ReturnCode::NotAvailable => "NOT_AVAILABLE",
+        ReturnCode::InvalidParam => "INVALID_PARAM",
+        ReturnCode::InvalidConfig => "INVALID_CONFIG",
+        ReturnCode::InvalidMode => "INVALID_MODE",
+        ReturnCode::TimedOut => "TIMED_OUT",
     }
 }
 

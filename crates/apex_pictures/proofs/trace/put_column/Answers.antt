@@ -23,13 +23,13 @@ returns-clause-text g c =
     let kept = ap (λ (s : Shown). s.counts) c.in_ok-put_changes.ensures.tracks in
     let now : c.entry.inside.now ≡ c.args.entry.now.now = ap (λ (e : Entry). e.now) c.entry.view_is in
     let notices : c.entry.inside.notices.now ≡ c.args.entry.now.notices = ap (λ (e : Entry). e.notices) c.entry.view_is in
-    on_ok_weaker c.put_misses.result
+    on_ok_weaker c.put_marks.result
     (λ put. column_whole kernel.table c.args.time c.args.shown.now c.args.entry.now (bare (moment_in kernel.table kernel.machine))
-    c.args.text.now.items c.put_changes.new.text.items c.put_counts.new.text.items c.put_misses.new.text.items
+    c.args.text.now.items c.put_changes.new.text.items c.put_counts.new.text.items c.put_marks.new.text.items
     (rw (c.table-table.ensures, c.new-stamp.ensures.ticks, now, c.store.ensures.roster) at c.in_ok-put_changes.ensures.text)
     (rw (kept, counts) at c.in_ok-put_counts.ensures.text)
     (rw (c.new-stamp.ensures.ticks, now, notices) at put))
-    c.put_misses.ensures
+    c.put_marks.ensures
 
 pub returns-clause-shown : goal.returns-clause-shown
 returns-clause-shown g c =
@@ -41,4 +41,4 @@ returns-clause-shown g c =
     ∙ ap (λ (s : Shown). record s { counts = counts_of kernel.table kernel.objects }) c.in_ok-put_changes.ensures.tracks
     ∙ ap (λ (counted : Counts). bare (moment_of (g.S.Store.roster c.store.result.now) counted)) counts
     ∙ ap (λ (r : Roster). bare (moment_of r (counts_after kernel.table kernel.machine.history))) c.store.ensures.roster in
-    on_ok_weaker c.put_misses.result (λ put. shown) c.put_misses.ensures
+    on_ok_weaker c.put_marks.result (λ put. shown) c.put_marks.ensures
