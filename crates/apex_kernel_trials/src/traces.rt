@@ -1,5 +1,5 @@
-//! The counters of a trace: the value of a semaphore, and the number of messages in a buffer. And
-//! the marks of its notices.
+//! The counters of a trace: the value of a semaphore, and the number of messages in a buffer. The
+//! notices of a trace: their marks, and the arrows to their processes.
 
 use crate::scans::booted;
 use apex_history::Counted;
@@ -70,16 +70,33 @@ initial = 0
 discipline = "FIFO"
 "#;
 
-/// By this a line of the trace is a mark.
-const MARK: &str = "\"ph\":\"i\"";
+/// The slices of the three entries with notices, the beginnings of the arrows, the marks, and the
+/// ends of the arrows. Seven moments of time 0 come before the slice of entry 8. An arrow's number
+/// is 128 times the entry's, and the place of its notice.
+const NOTICED: [&str; 15] = [
+    r#"{"ph":"X","pid":4,"tid":1,"ts":7,"dur":1,"args":{"now":0,"entry":8},"name":"SET_PARTITION_MODE"},"#,
+    r#"{"ph":"s","pid":4,"tid":1,"ts":7,"cat":"notice","id":1024,"name":"released"},"#,
+    r#"{"ph":"s","pid":4,"tid":1,"ts":7,"cat":"notice","id":1025,"name":"released"},"#,
+    r#"{"ph":"i","s":"t","pid":2,"tid":1,"ts":8,"args":{"now":0},"name":"released"},"#,
+    r#"{"ph":"i","s":"t","pid":2,"tid":2,"ts":8,"args":{"now":0},"name":"released"},"#,
+    r#"{"ph":"f","bp":"e","pid":2,"tid":1,"ts":8,"cat":"notice","id":1024,"name":"released"},"#,
+    r#"{"ph":"f","bp":"e","pid":2,"tid":2,"ts":8,"cat":"notice","id":1025,"name":"released"},"#,
+    r#"{"ph":"X","pid":2,"tid":2,"ts":9,"dur":1,"args":{"now":0,"entry":10},"name":"SIGNAL_SEMAPHORE"},"#,
+    r#"{"ph":"s","pid":2,"tid":2,"ts":9,"cat":"notice","id":1280,"name":"woken"},"#,
+    r#"{"ph":"i","s":"t","pid":2,"tid":1,"ts":10,"args":{"now":0},"name":"woken NO_ERROR"},"#,
+    r#"{"ph":"f","bp":"e","pid":2,"tid":1,"ts":10,"cat":"notice","id":1280,"name":"woken"},"#,
+    r#"{"ph":"X","pid":4,"tid":2,"ts":11,"dur":2989,"args":{"now":3,"entry":12},"name":"tick"},"#,
+    r#"{"ph":"s","pid":4,"tid":2,"ts":11,"cat":"notice","id":1536,"name":"woken"},"#,
+    r#"{"ph":"i","s":"t","pid":2,"tid":1,"ts":3000,"args":{"now":3},"name":"woken TIMED_OUT"},"#,
+    r#"{"ph":"f","bp":"e","pid":2,"tid":1,"ts":3000,"cat":"notice","id":1536,"name":"woken"},"#,
+];
 
-/// What follows that in each of these lines. Both processes are released by entry 8, LOW wakes HIGH
-/// by entry 10, and the tick that ends HIGH's wait is entry 12, of time 3.
-const MARKS: [&str; 4] = [
-    r#","s":"t","pid":2,"tid":1,"ts":8,"args":{"now":0},"name":"released"},"#,
-    r#","s":"t","pid":2,"tid":2,"ts":8,"args":{"now":0},"name":"released"},"#,
-    r#","s":"t","pid":2,"tid":1,"ts":10,"args":{"now":0},"name":"woken NO_ERROR"},"#,
-    r#","s":"t","pid":2,"tid":1,"ts":3000,"args":{"now":3},"name":"woken TIMED_OUT"},"#,
+/// How many events of each kind these are.
+const KINDS: [(&str, u8); 4] = [
+    ("\"ph\":\"X\"", 3),
+    ("\"ph\":\"s\"", 4),
+    ("\"ph\":\"i\"", 4),
+    ("\"ph\":\"f\"", 4),
 ];
 
 /// The trace of these events.
@@ -115,14 +132,20 @@ fn counters_follow_the_objects(rt: HostRuntime) {
 }
 
 #[test]
-fn notices_have_marks(rt: HostRuntime) {
+fn notices_have_marks_and_arrows(rt: HostRuntime) {
     let mut events = [Event::Turn(CoreId::new(0)); 12];
     events[11] = Event::Tick(3);
     let trace = trace_of(&rt, rt.alloc(), NOTICES_TABLE, &events);
-    let mut rest = str::from_utf8(trace.as_slice()).expect(&rt, "a trace is text");
-    for mark in MARKS {
-        rest = behind(rest, MARK).expect(&rt, "another mark");
-        assert!(rt; rest.starts_with(mark));
+    let text = str::from_utf8(trace.as_slice()).expect(&rt, "a trace is text");
+    let mut rest = text;
+    for line in NOTICED {
+        rest = behind(rest, line).expect(&rt, "another line");
     }
-    assert!(rt; behind(rest, MARK).is_none());
+    for (kind, many) in KINDS {
+        let mut rest = text;
+        for _ in 0..many {
+            rest = behind(rest, kind).expect(&rt, "another event of the kind");
+        }
+        assert!(rt; behind(rest, kind).is_none());
+    }
 }

@@ -1,21 +1,26 @@
 -- What a trace shows of a moment gives the text of the moment.
-use Rattle.std.proofs.Common.{◌≡◌, ◌∙◌, ℕ, zero, suc, ◌<◌, List, [], ◌∷◌, ◌++◌, Option, refl, sym, ap, append_assoc, subst}
+use Rattle.std.proofs.Common.{◌≡◌, ◌∙◌, ℕ, zero, suc, ◌<◌, None, Some, List, [], ◌∷◌, ◌++◌, Option, refl, sym, ap, append_assoc, subst}
 use Rattle.std.proofs.lemmas.List.{length-map, map-append}
-use Rattle.std.specs.Prelude.{map, flat_map, length, slice_index_or, codes}
+use Rattle.std.specs.Prelude.{Bool, map, flat_map, length, slice_get, slice_index_or, codes, if◌then◌else◌}
 use Rattle.apex_machine.specs.text.Listing.{texts_of}
 use Rattle.apex_machine.specs.processes.Roster.{Roster}
 use Rattle.apex_machine.specs.processes.Running.{process_state}
 use Rattle.apex_machine.specs.table.Table.{Table}
 use Rattle.apex_types.specs.declared.limits.TheConstants.{MOST_CORES}
+use Rattle.apex_types.specs.declared.entries.Notice.TheVariants.{Woken, Released, Missed}
+use Rattle.apex_pictures.specs.Arrows.{arrives, arrow_id, has_slice, head_at, head_of, head_text, heads_of, is_alive, source_of, source_spot, tail_at, tail_of, tail_text, tails_text}
 use Rattle.apex_pictures.specs.Counters.{counters_text}
 use Rattle.apex_pictures.specs.Counts.{Counts, HasCounts}
 use Rattle.apex_pictures.specs.Moments.{Shown, cell_of, moment_of, no_cell, none_shown, running_in}
 use Rattle.apex_pictures.specs.Places.{of_places}
-use Rattle.apex_pictures.specs.Terms.{Cell, Entry, State}
+use Rattle.apex_pictures.specs.Svg.{notice_process, notice_word}
+use Rattle.apex_pictures.specs.Terms.{Cell, Entry, Notice, State}
 use Rattle.apex_pictures.specs.Trace as trace
 use Rattle.apex_pictures.specs.Tracks.{Fits, Follows, HasTracks, bare, bare_cell, bare_cells, cell_on, no_track, track_of}
+use Rattle.apex_pictures.specs.declared.arrows.Span.{Span}
 use Rattle.apex_pictures.specs.declared.styles.Style.{Style}
 use Rattle.apex_pictures.specs.declared.styles.Style.TheVariants.{Svg, Trace}
+use Rattle.apex_pictures.specs.declared.trace.Spot.{Spot}
 use Rattle.apex_pictures.specs.declared.tracks.Track.{Track}
 use Rattle.apex_pictures.proofs.Places.{place_of}
 
@@ -94,13 +99,57 @@ changes_same table time now before after =
     (texts_same (trace.process_at time now (bare before) (bare after)) (trace.process_at time now before after)
     (length table.processes) (process_same time now before after))
 
+-- a process has a slice
+slice_same : (shown : Shown) (p : ℕ) → has_slice (bare shown) p ≡ has_slice shown p
+slice_same shown p = ap is_alive (state_bare shown.cells p)
+
+arrives_same : (after : Shown) (notice : Notice) → arrives (bare after) notice ≡ arrives after notice
+arrives_same after (Woken p code) = slice_same after p
+arrives_same after (Released p) = slice_same after p
+arrives_same after (Missed p kind) = refl
+
+tail_same : (spot : Spot) (after : Shown) (id : ℕ) (notice : Option Notice)
+    → tail_of spot (bare after) id notice ≡ tail_of spot after id notice
+tail_same spot after id None = refl
+tail_same spot after id (Some notice) =
+    ap (λ (yes : Bool). if yes then tail_text spot id (notice_word notice) else []) (arrives_same after notice)
+
+head_same : (time : ℕ) (after : Shown) (id : ℕ) (notice : Option Notice)
+    → head_of time (bare after) id notice ≡ head_of time after id notice
+head_same time after id None = refl
+head_same time after id (Some notice) =
+    ap (λ (yes : Bool). if yes then head_text time (notice_process notice) id (notice_word notice) else []) (arrives_same after notice)
+
+-- the beginnings and the ends of the arrows
+tails_same : (span : Span) (entry : Entry) (after : Shown)
+    → tails_text span entry (bare after) ≡ tails_text span entry after
+tails_same span entry after =
+    let spot = source_spot entry.process span.begin in
+    let number = entry.number in
+    let notices = entry.notices in
+    ap (λ l. source_of span entry notices ++ l)
+    (texts_same (tail_at spot (bare after) number notices) (tail_at spot after number notices) (length notices)
+    (λ i. tail_same spot after (arrow_id number i) (slice_get notices i)))
+
+heads_same : (time : ℕ) (after : Shown) (number : ℕ) (notices : List Notice)
+    → heads_of time (bare after) number notices ≡ heads_of time after number notices
+heads_same time after number notices =
+    texts_same (head_at time (bare after) number notices) (head_at time after number notices) (length notices)
+    (λ i. head_same time after (arrow_id number i) (slice_get notices i))
+
 -- the text of a column
-pub column_same : (table : Table) (time : ℕ) (before : Shown) (entry : Entry) (after : Shown)
-    → trace.column_text table time (bare before) entry (bare after) ≡ trace.column_text table time before entry after
-column_same table time before entry after =
-    ap (λ l. l ++ counters_text table time before.counts after.counts
-    ++ flat_map (trace.marked_text time entry.now) entry.notices)
-    (changes_same table time entry.now before after)
+pub column_same : (table : Table) (span : Span) (before : Shown) (entry : Entry) (after : Shown)
+    → trace.column_text table span (bare before) entry (bare after) ≡ trace.column_text table span before entry after
+column_same table span before entry after =
+    let marks = flat_map (trace.marked_text span.end entry.now) entry.notices in
+    let counted = counters_text table span.end before.counts after.counts in
+    let heads = heads_of span.end (bare after) entry.number entry.notices in
+    ap (λ l. l ++ (trace.changed_text table span.end entry.now (bare before) (bare after) ++ (marks ++ heads)))
+    (tails_same span entry after)
+    ∙ ap (λ l. tails_text span entry after ++ ((l ++ counted) ++ (marks ++ heads)))
+    (changes_same table span.end entry.now before after)
+    ∙ ap (λ l. tails_text span entry after ++ (trace.changed_text table span.end entry.now before after ++ (marks ++ l)))
+    (heads_same span.end after entry.number entry.notices)
 
 -- what comes after the columns
 pub foot_same : (table : Table) (time now : ℕ) (last : Shown)
@@ -126,15 +175,25 @@ follow_fits (Svg frame) tracks shown table follows counts cores = tt
 follow_fits Trace tracks shown table follows counts cores =
     (subst (λ (s : Shown). HasCounts s.counts table) (sym follows) counts, ap (λ (s : Shown). length s.running) follows ∙ cores)
 
--- the changes, the counters and the marks of a column, one behind the other
-pub column_whole : (table : Table) (time : ℕ) (before : Shown) (entry : Entry) (after : Shown) (text one two whole : List ℕ)
-    → one ≡ text ++ trace.changes_text table time entry.now before after
-    → two ≡ one ++ counters_text table time before.counts after.counts
-    → whole ≡ two ++ flat_map (trace.marked_text time entry.now) entry.notices
-    → whole ≡ text ++ trace.column_text table time before entry after
-column_whole table time before entry after text one two whole changes counters marks =
-    let changed = trace.changes_text table time entry.now before after in
+-- the changes and the counters, one behind the other
+pub changed_whole : (table : Table) (time now : ℕ) (before after : Shown) (text one whole : List ℕ)
+    → one ≡ text ++ trace.changes_text table time now before after
+    → whole ≡ one ++ counters_text table time before.counts after.counts
+    → whole ≡ text ++ trace.changed_text table time now before after
+changed_whole table time now before after text one whole changes counters =
+    let changed = trace.changes_text table time now before after in
     let counted = counters_text table time before.counts after.counts in
-    let marked = flat_map (trace.marked_text time entry.now) entry.notices in
-    marks ∙ ap (λ l. l ++ marked) (counters ∙ ap (λ l. l ++ counted) changes)
-    ∙ ap (λ l. l ++ marked) (append_assoc text changed counted) ∙ append_assoc text (changed ++ counted) marked
+    counters ∙ ap (λ l. l ++ counted) changes ∙ append_assoc text changed counted
+
+-- the parts of a column, one behind the other
+pub column_whole : (table : Table) (span : Span) (before : Shown) (entry : Entry) (after : Shown) (text one two whole : List ℕ)
+    → one ≡ text ++ tails_text span entry after
+    → two ≡ one ++ trace.changed_text table span.end entry.now before after
+    → whole ≡ two ++ trace.noticed_text span.end entry.now after entry.number entry.notices
+    → whole ≡ text ++ trace.column_text table span before entry after
+column_whole table span before entry after text one two whole tails changes marks =
+    let changed = trace.changed_text table span.end entry.now before after in
+    let marked = trace.noticed_text span.end entry.now after entry.number entry.notices in
+    marks ∙ ap (λ l. l ++ marked) (changes ∙ ap (λ l. l ++ changed) tails)
+    ∙ append_assoc (text ++ tails_text span entry after) changed marked
+    ∙ append_assoc text (tails_text span entry after) (changed ++ marked)

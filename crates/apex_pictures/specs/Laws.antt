@@ -24,9 +24,10 @@ pub record CountsAll (table : Table) (done : List Entry) (counts : Counts) : Typ
 
 -- Column k has entry k of the machine's history, and what holds in the roster after that entry: the state of
 -- each process, what it waits for and owns, and the process that each core runs. It has the counts of the
--- objects before the entry and after it, and the instant after it.
+-- objects before the entry and after it, and the instants of both.
 pub record Says (table : Table) (machine : Machine) (k : ℕ) (column : Column) : Type 0 where
   pub entry : slice_get machine.history k ≡ Some column.entry
+  pub begun : column.begun ≡ instant_after (take k machine.history)
   pub instant : column.instant ≡ instant_after (take (k + 1) machine.history)
   pub roster : Roster
   pub after : slice_get machine.past k ≡ Some roster

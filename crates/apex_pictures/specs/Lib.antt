@@ -6,6 +6,7 @@ pub mod Counts
 pub mod Instants
 pub mod Moments
 pub mod Svg
+pub mod Arrows
 pub mod Counters
 pub mod Trace
 pub mod Stamps

@@ -6,6 +6,8 @@ use Rattle.apex_pictures.specs.Instants.{hundredths, instant_after, next_instant
 use Rattle.apex_pictures.specs.Moments.{Column, moment_in, picture}
 use Rattle.apex_pictures.specs.Svg as svg
 use Rattle.apex_pictures.specs.Trace as trace
+use Rattle.apex_pictures.specs.declared.arrows.Span.{Span}
+use Rattle.apex_pictures.specs.declared.instants.Instant.{Instant}
 use Rattle.apex_pictures.specs.declared.styles.Style.{Style}
 use Rattle.apex_pictures.specs.declared.styles.Style.TheVariants.{Svg, Trace}
 
@@ -14,11 +16,16 @@ abbrev pub head_text : Style → Table → List ℕ
 head_text (Svg frame) table = svg.head_text frame
 head_text Trace table = trace.head_text table (moment_in table (opening table))
 
+-- the time between two instants
+abbrev pub span_of : Instant → Instant → Span
+span_of begun ended = record { begin = hundredths begun; end = hundredths ended }
+
 -- a column
 abbrev pub column_text : Style → Table → Column → List ℕ
 column_text (Svg frame) table column = svg.column_text table frame column.entry column.after
 column_text Trace table column =
-    trace.column_text table (hundredths column.instant) column.before column.entry column.after
+    trace.column_text table (span_of column.begun column.instant) column.before column.entry
+    column.after
 
 -- where a picture ends: at the instant that the next moment would have now
 abbrev pub end_time : Machine → ℕ

@@ -1,5 +1,5 @@
 -- A picture as a trace in the Trace Event Format, which is JSON. The groups of tracks are the cores (1), the
--- processes (2) and the objects (3). A tick is 1,000 units of the axis; times are hundredths of a unit, and the
+-- processes (2), the objects (3), and the init list and the ticks (4). A tick is 1,000 units of the axis; times are hundredths of a unit, and the
 -- partition's time is an argument too.
 use Rattle.std.specs.Prelude.{ℕ, ◌+◌, Bool, true, false, List, [], ◌∷◌, ◌++◌, Option, None, Some, is_some, codes, decimal, flat_map, length, slice_index_or, if◌then◌else◌, ◌==◌}
 use Rattle.apex_machine.specs.text.Texts.{id_text, process_name}
@@ -9,6 +9,7 @@ use Rattle.apex_machine.specs.text.Status.{state_text}
 use Rattle.apex_machine.specs.table.Table.{Table}
 use Rattle.apex_types.specs.declared.entries.Notice.TheVariants.{Woken, Released, Missed}
 use Rattle.apex_types.specs.declared.modes.State.TheVariants.{Dormant, Ready, Running, Waiting}
+use Rattle.apex_pictures.specs.Arrows.{heads_of, is_alive, tails_text}
 use Rattle.apex_pictures.specs.Counters.{counters_text}
 use Rattle.apex_pictures.specs.Counts.{no_counts}
 use Rattle.apex_pictures.specs.Instants.{time_text}
@@ -18,6 +19,7 @@ use Rattle.apex_pictures.specs.Svg.{texts}
 use Rattle.apex_types.specs.declared.modes.DeadlineType.{DeadlineType}
 use Rattle.apex_pictures.specs.Terms.{Entry, Notice, State}
 use Rattle.apex_json.specs.Strings.{json_text}
+use Rattle.apex_pictures.specs.declared.arrows.Span.{Span}
 use Rattle.apex_pictures.specs.declared.trace.Spot.{Spot}
 
 -- the name of a core's track, and its place among those of the cores
@@ -39,7 +41,7 @@ process_name_text table p = texts (
 -- the beginning of the file: the unit of the ruler, the program and the names of the groups
 unfoldable pub opening_text : List ℕ
 opening_text =
-    codes "{\"displayTimeUnit\":\"ms\",\"otherData\":{\"program\":\"apex\"},\"traceEvents\":[\n{\"ph\":\"M\",\"pid\":1,\"name\":\"process_name\",\"args\":{\"name\":\"cores\"}},\n{\"ph\":\"M\",\"pid\":2,\"name\":\"process_name\",\"args\":{\"name\":\"processes\"}},\n{\"ph\":\"M\",\"pid\":3,\"name\":\"process_name\",\"args\":{\"name\":\"objects\"}}"
+    codes "{\"displayTimeUnit\":\"ms\",\"otherData\":{\"program\":\"apex\"},\"traceEvents\":[\n{\"ph\":\"M\",\"pid\":1,\"name\":\"process_name\",\"args\":{\"name\":\"cores\"}},\n{\"ph\":\"M\",\"pid\":2,\"name\":\"process_name\",\"args\":{\"name\":\"processes\"}},\n{\"ph\":\"M\",\"pid\":3,\"name\":\"process_name\",\"args\":{\"name\":\"objects\"}},\n{\"ph\":\"M\",\"pid\":4,\"name\":\"process_name\",\"args\":{\"name\":\"others\"}},\n{\"ph\":\"M\",\"pid\":4,\"tid\":1,\"name\":\"thread_name\",\"args\":{\"name\":\"init\"}},\n{\"ph\":\"M\",\"pid\":4,\"tid\":1,\"name\":\"thread_sort_index\",\"args\":{\"sort_index\":1}},\n{\"ph\":\"M\",\"pid\":4,\"tid\":2,\"name\":\"thread_name\",\"args\":{\"name\":\"ticks\"}},\n{\"ph\":\"M\",\"pid\":4,\"tid\":2,\"name\":\"thread_sort_index\",\"args\":{\"sort_index\":2}}"
 
 -- what comes before the columns: the names of the tracks, and all counts of the moment before the first entry
 abbrev pub head_text : Table → Shown → List ℕ
@@ -105,11 +107,6 @@ same_state Running Running = true
 same_state Waiting Waiting = true
 same_state state other = false
 
--- a process is not dormant
-abbrev pub is_begun : State → Bool
-is_begun Dormant = false
-is_begun state = true
-
 -- the changes on the track of a core
 abbrev pub core_text : Table → Spot → ℕ → Option ℕ → Option ℕ → List ℕ
 core_text table spot now before after =
@@ -120,7 +117,7 @@ core_text table spot now before after =
 abbrev pub process_text : Spot → ℕ → State → State → List ℕ
 process_text spot now before after =
     if same_state before after then []
-    else ended (is_begun before) spot ++ being_text spot now after
+    else ended (is_alive before) spot ++ being_text spot now after
 
 -- the track of a core
 abbrev pub core_spot : ℕ → ℕ → Spot
@@ -164,12 +161,24 @@ changes_text table time now before after =
     texts_of (core_at table time now before after) table.cores
     ++ texts_of (process_at time now before after) (length table.processes)
 
--- the changes by an entry on the tracks and of the counters, and the marks of its notices
-abbrev pub column_text : Table → ℕ → Shown → Entry → Shown → List ℕ
-column_text table time before entry after =
-    changes_text table time entry.now before after
+-- the changes by an entry on the tracks and of the counters
+abbrev pub changed_text : Table → ℕ → ℕ → Shown → Shown → List ℕ
+changed_text table time now before after =
+    changes_text table time now before after
     ++ counters_text table time before.counts after.counts
-    ++ flat_map (marked_text time entry.now) entry.notices
+
+-- the marks of the notices of the entry of this number, and the ends of its arrows
+abbrev pub noticed_text : ℕ → ℕ → Shown → ℕ → List Notice → List ℕ
+noticed_text time now after number notices =
+    flat_map (marked_text time now) notices ++ heads_of time after number notices
+
+-- the beginnings of an entry's arrows, the changes on the tracks and of the counters, and the marks of its
+-- notices with the ends of the arrows
+abbrev pub column_text : Table → Span → Shown → Entry → Shown → List ℕ
+column_text table span before entry after =
+    tails_text span entry after
+    ++ (changed_text table span.end entry.now before after
+    ++ noticed_text span.end entry.now after entry.number entry.notices)
 
 -- what comes after the columns: the ends of all slices
 abbrev pub foot_text : Table → ℕ → ℕ → Shown → List ℕ

@@ -12,10 +12,12 @@ ghost use Rattle.apex_pictures.specs.Instants.{instant_after};
 ghost use Rattle.apex_pictures.specs.Moments.{Shown, moment_in};
 ghost use Rattle.apex_pictures.specs.declared.drawing.DrawFault.TheVariants.{Memory};
 ghost use Rattle.apex_pictures.specs.Drawing.{CountsDrawing, Grows};
-ghost use Rattle.apex_pictures.specs.Pictures.{column_text, foot_text, head_text, picture_text};
+ghost use Rattle.apex_pictures.specs.Pictures.{column_text, foot_text, head_text, picture_text, span_of};
+ghost use Rattle.apex_pictures.specs.declared.instants.Instant.{Instant as InstantOf};
 ghost use Rattle.apex_pictures.specs.Svg as svg_text;
 ghost use Rattle.apex_pictures.specs.Tracks.{Fits, Follows, HasTracks, bare};
 
+use crate::arrows::Span;
 use crate::counts::counts_of;
 use crate::frames::Frame;
 use crate::instants::Instant;
@@ -125,24 +127,25 @@ fn put_svg_column<S: Store>(
     svg::put_column(text, kernel.table(), frame, entry, &moment)
 }
 
-/// Puts the column of the latest entry, which has this instant; if a trace is drawn, `shown` are
-/// the tracks before it, and then those after it.
+/// Puts the column of the latest entry, which has this time; if a trace is drawn, `shown` are the
+/// tracks before it, and then those after it.
 fn put_column<S: Store>(
     text: &mut Vec<u8>,
     style: &Style,
     kernel: &Kernel<S>,
-    instant: Instant,
+    span: Span,
     entry: &LentEntry<'_>,
     shown: &mut Tracks,
 ) -> Result<(), AllocError>
     requires printable { IsPrintable kernel.now.table entry.now }
     requires many { HasTracks style.now shown.old (length kernel.now.machine.roster.records) }
     requires fits { Fits style.now shown.old kernel.now.table }
-    requires time { instant.now ≤ latest }
-    ensures drawn { (before : Shown) → Follows style.now shown.old before
+    ensures drawn { (begun ended : InstantOf) (before : Shown) → span ≡ span_of begun ended
+        → Follows style.now shown.old before
         → OnOk result (text.new.items ≡ text.old.items ++ column_text style.now kernel.now.table
         (record {
-          instant = instant;
+          begun = begun;
+          instant = ended;
           before = before;
           entry = entry.entry.now;
           after = moment_in kernel.now.table kernel.now.machine;
@@ -152,7 +155,18 @@ fn put_column<S: Store>(
 {
     match style {
         Style::Svg(frame) => put_svg_column(text, frame, kernel, entry),
-        Style::Trace => trace::put_column(text, kernel, instant.hundredths(), entry, shown),
+        Style::Trace => trace::put_column(text, kernel, span, entry, shown),
+    }
+}
+
+/// The time between two instants.
+fn span_of(begun: Instant, ended: Instant) -> Span
+    requires times { (begun.now ≤ latest) × (ended.now ≤ latest) }
+    ensures { result ≡ span_of begun ended }
+{
+    Span {
+        begin: begun.hundredths(),
+        end: ended.hundredths(),
     }
 }
 
@@ -185,8 +199,10 @@ fn draw_event<S: Store>(
     let Some(entry) = kernel.entries().latest() else {
         return Ok(());
     };
-    *instant = instant.next(kernel.now());
-    put_column(text, style, kernel, *instant, &entry, shown)
+    let begun = *instant;
+    *instant = begun.next(kernel.now());
+    let span = span_of(begun, *instant);
+    put_column(text, style, kernel, span, &entry, shown)
 }
 
 /// Writes the text out, and forgets it.

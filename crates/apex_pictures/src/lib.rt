@@ -3,6 +3,7 @@
 //! of each buffer.
 #![tactic(auto)]
 
+mod arrows;
 mod counters;
 mod counts;
 mod drawing;

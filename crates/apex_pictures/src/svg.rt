@@ -396,7 +396,7 @@ fn put_ring(
     }
 }
 
-fn notice_process(notice: &Notice) -> ProcessId
+pub(crate) fn notice_process(notice: &Notice) -> ProcessId
     ensures { result ≡ notice_process notice.now }
 {
     match notice {

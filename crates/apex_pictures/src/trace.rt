@@ -4,7 +4,8 @@
 ghost use Rattle.std.specs.Prelude.{◌≡◌, ◌+◌, ◌≤◌, ◌++◌, flat_map, is_some, length, map, OnOk};
 ghost use Rattle.arrayvec.specs.ArrayVec.{array_vec_len};
 ghost use Rattle.apex_machine.specs.text.Listing.{texts_of};
-ghost use Rattle.apex_types.specs.declared.limits.TheConstants.{MOST_CORES};
+ghost use Rattle.apex_types.specs.declared.limits.TheConstants.{MOST_CORES, MOST_NOTICES};
+ghost use Rattle.apex_pictures.specs.Arrows.{is_alive};
 ghost use Rattle.apex_pictures.specs.Counts.{HasCounts};
 ghost use Rattle.apex_pictures.specs.Moments.{moment_in, none_shown, running_in, with_cells, with_running};
 ghost use Rattle.apex_pictures.specs.Places.{of_places};
@@ -14,6 +15,7 @@ ghost use Rattle.apex_pictures.specs.declared.pieces.TheConstants.{PIECE_ROOM};
 ghost use Rattle.apex_pictures.specs.declared.trace.TheConstants.{BEGIN, END, NAME};
 ghost use Rattle.apex_pictures.specs.Tracks.{bare, bare_cells, cell_on, track_of};
 
+use crate::arrows::{Span, is_alive, put_heads_of, put_tails};
 use crate::counters::put_first_counts;
 use crate::moments::{CORES, running_at};
 use crate::pieces::{Piece, add, add_number, add_text};
@@ -31,11 +33,11 @@ use std::alloc::AllocError;
 /// The place of a slice or a mark in a trace: its group, its track and its time.
 #[derive(Clone, Copy)]
 pub(crate) struct Spot {
-    /// 1 of the cores, 2 of the processes.
-    group: u8,
-    track: u32,
+    /// 1 of the cores, 2 of the processes, 4 of the init list and the ticks.
+    pub(crate) group: u8,
+    pub(crate) track: u32,
     /// In hundredths of a unit.
-    time: u64,
+    pub(crate) time: u64,
 }
 
 /// Puts the name of a core's track, and its place among those of the cores.
@@ -106,7 +108,7 @@ fn put_opening(text: &mut Vec<u8>) -> Result<(), AllocError>
 {
     put(
         text,
-        "{\"displayTimeUnit\":\"ms\",\"otherData\":{\"program\":\"apex\"},\"traceEvents\":[\n{\"ph\":\"M\",\"pid\":1,\"name\":\"process_name\",\"args\":{\"name\":\"cores\"}},\n{\"ph\":\"M\",\"pid\":2,\"name\":\"process_name\",\"args\":{\"name\":\"processes\"}},\n{\"ph\":\"M\",\"pid\":3,\"name\":\"process_name\",\"args\":{\"name\":\"objects\"}}",
+        "{\"displayTimeUnit\":\"ms\",\"otherData\":{\"program\":\"apex\"},\"traceEvents\":[\n{\"ph\":\"M\",\"pid\":1,\"name\":\"process_name\",\"args\":{\"name\":\"cores\"}},\n{\"ph\":\"M\",\"pid\":2,\"name\":\"process_name\",\"args\":{\"name\":\"processes\"}},\n{\"ph\":\"M\",\"pid\":3,\"name\":\"process_name\",\"args\":{\"name\":\"objects\"}},\n{\"ph\":\"M\",\"pid\":4,\"name\":\"process_name\",\"args\":{\"name\":\"others\"}},\n{\"ph\":\"M\",\"pid\":4,\"tid\":1,\"name\":\"thread_name\",\"args\":{\"name\":\"init\"}},\n{\"ph\":\"M\",\"pid\":4,\"tid\":1,\"name\":\"thread_sort_index\",\"args\":{\"sort_index\":1}},\n{\"ph\":\"M\",\"pid\":4,\"tid\":2,\"name\":\"thread_name\",\"args\":{\"name\":\"ticks\"}},\n{\"ph\":\"M\",\"pid\":4,\"tid\":2,\"name\":\"thread_sort_index\",\"args\":{\"sort_index\":2}}",
     )
 }
 
@@ -289,15 +291,6 @@ fn is_same_state(before: State, after: State) -> bool
     before == after
 }
 
-fn is_begun(state: State) -> bool
-    ensures { result ≡ trace.is_begun state }
-{
-    match state {
-        State::Dormant => false,
-        State::Ready | State::Running | State::Waiting => true,
-    }
-}
-
 /// Puts the end of the slice on the track of a process, and the beginning of the next one.
 // Not inlined, as on most tracks an entry changes nothing.
 #[inline(never)]
@@ -310,11 +303,11 @@ fn put_change(
 ) -> Result<(), AllocError>
     requires { Stamps stamp.now spot }
     ensures { OnOk result (text.new.items ≡ text.old.items
-        ++ (trace.ended (trace.is_begun before) spot
+        ++ (trace.ended (is_alive before) spot
         ++ trace.being_text spot stamp.now.ticks after)) }
 {
     let mut piece = Piece::new();
-    add_ended(&mut piece, spot, stamp, is_begun(before));
+    add_ended(&mut piece, spot, stamp, is_alive(before));
     add_being(&mut piece, spot, stamp, after);
     text.extend_from_slice(piece.as_slice())
 }
@@ -529,13 +522,61 @@ fn put_marks(
     Ok(())
 }
 
-/// Puts the changes by the latest entry on the tracks and of the counters, and the marks of its
-/// notices, at this time. `shown` are the tracks before it, and then those after it.
+/// Puts the changes by the latest entry on the tracks and of the counters, at this time. `shown` are
+/// the tracks before it, and then those after it.
+#[tactic(auto, using(std::proofs::Common::append_assoc))]
+fn put_changed<S: Store>(
+    text: &mut Vec<u8>,
+    kernel: &Kernel<S>,
+    time: u64,
+    now: u64,
+    shown: &mut Tracks,
+) -> Result<(), AllocError>
+    requires many { length shown.old.cells ≡ length kernel.now.machine.roster.records }
+    requires counts { HasCounts shown.old.counts kernel.now.table }
+    requires cores { length shown.old.running ≡ MOST_CORES }
+    ensures text { OnOk result (text.new.items ≡ text.old.items
+        ++ trace.changed_text kernel.now.table time now shown.old
+        (bare (moment_in kernel.now.table kernel.now.machine))) }
+    ensures shown { OnOk result (shown.new
+        ≡ bare (moment_in kernel.now.table kernel.now.machine)) }
+{
+    kernel.holds();
+    let stamp = Stamp::new(time, now);
+    shown.put_changes(text, kernel.table(), kernel.store(), time, &stamp)?;
+    shown.put_counts(text, kernel, time)
+}
+
+/// Puts the marks of the notices of the entry of this number, and the ends of its arrows.
+#[tactic(auto, using(std::proofs::Common::append_assoc))]
+fn put_noticed<S: Store>(
+    text: &mut Vec<u8>,
+    store: &S,
+    time: u64,
+    now: u64,
+    number: u32,
+    notices: &[Notice],
+) -> Result<(), AllocError>
+    requires { length notices.now ≤ MOST_NOTICES }
+    ensures { OnOk result (text.new.items ≡ text.old.items
+        ++ trace.noticed_text time now (with_cells (bare_cells (S.roster store.now))) number
+        notices.now) }
+{
+    if notices.is_empty() {
+        return Ok(());
+    }
+    let stamp = Stamp::new(time, now);
+    put_marks(text, time, &stamp, notices)?;
+    put_heads_of(text, store, time, number, notices)
+}
+
+/// Puts the changes by the latest entry on the tracks and of the counters, the marks of its notices
+/// and its arrows. `shown` are the tracks before it, and then those after it.
 #[tactic(auto, using(std::proofs::Common::append_assoc))]
 pub(crate) fn put_column<S: Store>(
     text: &mut Vec<u8>,
     kernel: &Kernel<S>,
-    time: u64,
+    span: Span,
     entry: &LentEntry<'_>,
     shown: &mut Tracks,
 ) -> Result<(), AllocError>
@@ -543,17 +584,23 @@ pub(crate) fn put_column<S: Store>(
     requires counts { HasCounts shown.old.counts kernel.now.table }
     requires cores { length shown.old.running ≡ MOST_CORES }
     ensures text { OnOk result (text.new.items ≡ text.old.items
-        ++ trace.column_text kernel.now.table time shown.old entry.entry.now
+        ++ trace.column_text kernel.now.table span shown.old entry.entry.now
         (bare (moment_in kernel.now.table kernel.now.machine))) }
     ensures shown { OnOk result (shown.new
         ≡ bare (moment_in kernel.now.table kernel.now.machine)) }
 {
     kernel.holds();
-    let table = kernel.table();
-    let stamp = Stamp::new(time, entry.now);
-    shown.put_changes(text, table, kernel.store(), time, &stamp)?;
-    shown.put_counts(text, kernel, time)?;
-    put_marks(text, time, &stamp, entry.notices)
+    let store = kernel.store();
+    put_tails(text, store, span, entry)?;
+    put_changed(text, kernel, span.end, entry.now, shown)?;
+    put_noticed(
+        text,
+        store,
+        span.end,
+        entry.now,
+        entry.number,
+        entry.notices,
+    )
 }
 
 /// Puts what comes after the columns: the ends of all slices.

@@ -9,11 +9,13 @@ use Rattle.apex_machine.specs.table.Table.{Table}
 use Rattle.apex_types.specs.declared.limits.TheConstants.{MOST_CORES}
 use Rattle.apex_dispatch.specs.Kernel.{KernelState}
 use Rattle.apex_pictures.specs.declared.instants.Instant.{Instant}
+use Rattle.apex_pictures.specs.Instants.{instant_after}
 use Rattle.apex_pictures.specs.Moments.{cell_of, moment_in}
+use Rattle.apex_pictures.specs.Pictures.{span_of}
 use Rattle.apex_pictures.proofs.Counted.{counted_all}
 use Rattle.apex_pictures.proofs.Drawn.{one_column}
 use Rattle.apex_pictures.proofs.NextInstants.{next_now, place_within}
-use Rattle.apex_pictures.proofs.Pictured.{column_more, instant_more, latest_holds, latest_some, pictured_machine}
+use Rattle.apex_pictures.proofs.Pictured.{column_more, instant_more, latest_holds, latest_some, pictured_machine, timed_machine}
 use Rattle.apex_pictures.proofs.Places.{length_of}
 use Rattle.apex_pictures.proofs.TracksShown.{follow_fits, follow_many}
 use Rattle.apex_pictures.proofs.drawing.draw_event.Goals as goal
@@ -43,9 +45,12 @@ next-requires g c =
     let few = place_within c.args.kernel.now.machine.history in
     omega (arith, rw (← c.requires.instant) at few, c.holds.ensures.within, c.holds.ensures.lawful.limit.1)
 
-pub put_column-requires-clause-time : goal.put_column-requires-clause-time
-put_column-requires-clause-time g c =
-    omega (arith, ap (λ (i : Instant). i.now) c.next.ensures ∙ next_now c.args.instant.now c.now.result, c.now.ensures, c.holds-2.ensures.time)
+pub span_of-requires : goal.span_of-requires
+span_of-requires g c =
+    let timed = timed_machine c.args.kernel.now.table c.args.kernel.now.machine c.holds.ensures.replays in (
+      omega (arith, ap (λ (i : Instant). i.now) c.requires.instant ∙ timed, c.holds.ensures.time),
+      omega (arith, ap (λ (i : Instant). i.now) c.next.ensures ∙ next_now c.args.instant.now c.now.result, c.now.ensures, c.holds-2.ensures.time),
+    )
 
 pub returns-in_default-latest-clause-instant : goal.returns-in_default-latest-clause-instant
 returns-in_default-latest-clause-instant g c =
@@ -108,8 +113,10 @@ returns-clause-drawn g c =
     let instant = (rw (c.now.ensures, c.requires.instant) at c.next.ensures)
     ∙ sym (instant_more table machine _ c.args.event (c.in-Ok.ensures.accepted.0 refl) new) in
     on_ok_weaker c.put_column.result
-    (λ put. one_column c.args.style.now table machine c.accept.new.self.machine _ _ _ more (rw (kept, instant) at put))
-    (c.put_column.ensures.drawn _ c.requires.shown)
+    (λ put. one_column c.args.style.now table machine c.accept.new.self.machine _ _ _ more (rw kept at put))
+    (c.put_column.ensures.drawn (instant_after machine.history) (instant_after c.accept.new.self.machine.history) _
+    (c.span_of-span.ensures ∙ ap (λ (i : Instant). span_of i c.next.result) c.requires.instant
+    ∙ ap (span_of (instant_after machine.history)) instant) c.requires.shown)
 
 pub returns-clause-shown : goal.returns-clause-shown
 returns-clause-shown g c =
