@@ -56,3 +56,7 @@ pub record Headline (partition : PartitionState) : Type 0 where
   -- releases
   pub replays : run partition.table (opening partition.table) (events_of partition.machine.history)
       ≡ partition.machine
+
+-- a partition keeps the headline; closed, so that only a proof that asks for the facts reads them
+unfoldable pub KeepsHeadline : PartitionState → Type 0
+KeepsHeadline partition = Headline partition

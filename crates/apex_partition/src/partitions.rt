@@ -8,7 +8,7 @@ ghost use Rattle.apex_machine.specs.processes.Running.{chosen, process_state};
 ghost use Rattle.apex_machine.specs.Events.{IsWithin};
 ghost use Rattle.apex_store.specs.Laws.{RunsMostUrgent};
 ghost use Rattle.apex_board.specs.Fronts.{FitsWords, IsFrontAfter, front_of};
-ghost use Rattle.apex_partition.specs.Headline.{Headline};
+ghost use Rattle.apex_partition.specs.Headline.{Headline, KeepsHeadline};
 ghost use Rattle.apex_partition.specs.Steps.{IsFullAt, after_tick, after_turn, opened};
 
 use apex_board::Front;
@@ -31,18 +31,18 @@ pub struct Partition {
 }
 
 impl Model for Partition {
-    ghost use Rattle.apex_partition.specs.Headline.{Headline, PartitionState};
+    ghost use Rattle.apex_partition.specs.Headline.{KeepsHeadline, PartitionState};
 
     ghost Value = { PartitionState };
 
     ghost view = { λ p. p.kernel };
 
-    ghost invariant = { λ p. Headline p.kernel };
+    ghost invariant = { λ p. KeepsHeadline p.kernel };
 }
 
 /// The headline holds of every kernel over linked lists, with the lists that its store keeps.
 fn headline_holds(kernel: &Kernel<QueueStore>)
-    ensures { Headline kernel.now }
+    ensures { KeepsHeadline kernel.now }
 {
     kernel.holds();
     values_and_dues_are_in_range(kernel);
@@ -134,6 +134,7 @@ impl Partition {
         ensures roster { result.now.roster ≡ self.now.machine.roster }
         ensures headline { Headline self.now }
     {
+        self.holds();
         self.kernel.store()
     }
 
@@ -194,6 +195,7 @@ impl Partition {
     /// waits, and the stored history replays on the one-thread machine with the same return codes
     /// and releases. It speaks of the lists that this partition stores; [`Partition::store`] lends
     /// them.
+    #[tactic(auto, unfolding(crate::specs::Headline::KeepsHeadline))]
     pub fn holds(&self)
         ensures { Headline self.now }
     {
