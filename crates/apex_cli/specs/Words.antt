@@ -7,13 +7,9 @@ use Rattle.apex_console.specs.Words.{flag_rule, program_alone, request_by, requi
 use Rattle.apex_console.specs.declared.Report.{Report}
 use Rattle.apex_console.specs.declared.Report.TheVariants.{History, Status}
 
--- `replay --schedule S`
-abbrev pub replay : App
-replay = with_rule (new_app (codes "replay")) (required_rule (codes "schedule"))
-
--- `status --schedule S`
-abbrev pub status : App
-status = with_rule (new_app (codes "status")) (required_rule (codes "schedule"))
+-- the command of this name, `--schedule S`
+abbrev pub report_command : Text → App
+report_command name = with_rule (new_app name) (required_rule (codes "schedule"))
 
 -- `check`
 abbrev pub check : App
@@ -27,16 +23,16 @@ run =
     (required_rule (codes "ticks")))
     (flag_rule (codes "front"))
 
--- `apex`
-abbrev pub apex_alone : App
-apex_alone = program_alone (codes "apex")
-
--- the program's command line, with its commands
-abbrev pub apex : App
-apex =
+-- the program's command line, with its commands that report a run
+abbrev pub apex_of_reports : App
+apex_of_reports =
     with_subcommand
-    (with_subcommand
-    (with_subcommand (with_subcommand apex_alone replay.top) status.top) check.top) run.top
+    (with_subcommand (program_alone (codes "apex")) (report_command (codes "replay")).top)
+    (report_command (codes "status")).top
+
+-- the program's command line, with all its commands
+abbrev pub apex : App
+apex = with_subcommand (with_subcommand apex_of_reports check.top) run.top
 
 -- the request of the words of a command line
 pub data Request : Type 0 where
