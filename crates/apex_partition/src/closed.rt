@@ -16,11 +16,21 @@ use std::marker::Model;
 use std::sync::Wait;
 
 /// A partition to whose history nothing will be added. Contracts see it as that history.
-#[derive(Drop)]
 pub struct Closed<P: Naming> {
     partition: Partition,
     story: Story<P>,
     publisher: Option<Publisher<P>>,
+}
+
+// Whoever owns it lets it go in one step, and not in one for each field.
+impl<P: Naming> Drop for Closed<P> {
+    fn drop(self) {
+        let Closed {
+            partition: _partition,
+            story: _story,
+            publisher: _publisher,
+        } = self;
+    }
 }
 
 impl<P: Naming> Model for Closed<P> {
@@ -109,6 +119,11 @@ impl<P: Naming> Closed<P> {
         ensures table { result.table ≡ P.table }
         ensures history { result.machine.history ≡ self }
     {
-        self.partition
+        let Closed {
+            partition,
+            story: _story,
+            publisher: _publisher,
+        } = self;
+        partition
     }
 }

@@ -23,11 +23,21 @@ use std::sync::Wait;
 /// if it has readers, the publisher of its fronts. Contracts see it as the partition.
 ///
 /// Before and after each call the front after the whole history is published.
-#[derive(Drop)]
 pub struct Published<P: Naming> {
     partition: Partition,
     scribe: Scribe<P>,
     publisher: Option<Publisher<P>>,
+}
+
+// Whoever owns it lets it go in one step, and not in one for each field.
+impl<P: Naming> Drop for Published<P> {
+    fn drop(self) {
+        let Published {
+            partition: _partition,
+            scribe: _scribe,
+            publisher: _publisher,
+        } = self;
+    }
 }
 
 impl<P: Naming> Model for Published<P> {
@@ -236,7 +246,7 @@ impl<P: Naming> Published<P> {
             (slice_index_or seats.items core seat) }
     {
         for seat in seats {
-            self.settle(seat.voice);
+            self.settle(seat.into_voice());
         }
     }
 
@@ -245,7 +255,7 @@ impl<P: Naming> Published<P> {
         ensures same { self.new ≡ self.old }
         ensures settled { IsSettled P.table self.old.machine.history ToTicker ticker }
     {
-        self.settle(ticker.voice);
+        self.settle(ticker.into_voice());
     }
 
     /// Ends the partition.

@@ -10,10 +10,19 @@ use std::marker::Model;
 
 /// The seat of one core, which alone takes the core's turns. Contracts see it as the entries that
 /// it made. None can be made but by opening a partition, and none can be copied.
-#[derive(Drop)]
 pub struct Seat<P: Naming> {
     pub(crate) core: CoreId,
     pub(crate) voice: Voice<P>,
+}
+
+// Whoever owns a seat lets it go in one step, and not in one for each field of its voice.
+impl<P: Naming> Drop for Seat<P> {
+    fn drop(self) {
+        let Seat {
+            core: _core,
+            voice: _voice,
+        } = self;
+    }
 }
 
 impl<P: Naming> Model for Seat<P> {
@@ -36,6 +45,14 @@ impl<P: Naming> Seat<P> {
         ensures { result ≡ voice }
     {
         Seat { core, voice }
+    }
+
+    /// The voice with which it speaks.
+    pub(crate) fn into_voice(self) -> Voice<P>
+        ensures { result ≡ self }
+    {
+        let Seat { core: _core, voice } = self;
+        voice
     }
 
     /// The core whose turns it takes.
@@ -62,11 +79,20 @@ impl<P: Naming> Seat<P> {
 
 /// The ticker, which alone makes the ticks of a partition. Contracts see it as the entries that it
 /// made. None can be made but by opening a partition, and none can be copied.
-#[derive(Drop)]
 pub struct Ticker<P: Naming> {
     pub(crate) voice: Voice<P>,
     /// The ticks that its entries ask for, in all.
     pub(crate) sum: u64,
+}
+
+// As a seat is let go.
+impl<P: Naming> Drop for Ticker<P> {
+    fn drop(self) {
+        let Ticker {
+            voice: _voice,
+            sum: _sum,
+        } = self;
+    }
 }
 
 impl<P: Naming> Model for Ticker<P> {
@@ -91,6 +117,14 @@ impl<P: Naming> Ticker<P> {
         ensures { result ≡ voice }
     {
         Ticker { voice, sum: 0 }
+    }
+
+    /// The voice with which it speaks.
+    pub(crate) fn into_voice(self) -> Voice<P>
+        ensures { result ≡ self }
+    {
+        let Ticker { voice, sum: _sum } = self;
+        voice
     }
 
     /// The number of entries that it made, which is also the place of its last receipt.
