@@ -54,7 +54,7 @@ fn fault_given(comments: bool, history: &[u8], fault: CheckFault) -> CheckFault
 }
 
 /// A fault of a text in memory: as many bytes as no reader lets through want memory.
-fn fault_in_memory(fault: CheckFault) -> CheckFault
+pub fn fault_in_memory(fault: CheckFault) -> CheckFault
     ensures { result ≡ fault_in_memory fault }
 {
     match fault {

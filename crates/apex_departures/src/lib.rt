@@ -7,7 +7,9 @@ mod lines;
 mod objects;
 mod pages;
 mod putting;
+mod shown;
 mod whys;
 
-pub use explaining::explain;
+pub use explaining::{explain, fault_in_memory};
+pub use shown::{ShownLines, shown_lines};
 pub use whys::why;

@@ -115,6 +115,24 @@ pub(crate) fn put_followed<'a>(
     Ok(history)
 }
 
+/// The history of a text as it was given: what stands behind its first line `%%`. It is empty if no
+/// line is the separator.
+pub(crate) fn history_in(all: &[u8]) -> &[u8]
+    ensures { line_parts result.now ≡ given_parts all.now }
+{
+    let mut left = all;
+    loop {
+        let (line, behind) = next_line(left);
+        let Some(rest) = behind else {
+            return &[];
+        };
+        if is_separator(line) {
+            return rest;
+        }
+        left = rest;
+    }
+}
+
 /// A line of a history as it was given.
 #[derive(Clone, Copy)]
 pub(crate) struct GivenLine<'a> {

@@ -1,9 +1,9 @@
 //! The tests of the kernel and of the printing of lines that no stored case can show: how many
 //! records a turn looks at, lines that no run prints, a writer that fails, the counters of a trace,
-//! and a value change dump; the faults and the warnings of a table, and the lines that report them;
-//! the report of a history; entries and a listing as objects of JSON; the reasons of turns; searches
-//! of a small system and of two tables; the words and texts of answers; departures that are
-//! explained; and sessions that answer commands. It has no code of its own.
+//! the mark of a departure, and a value change dump; the faults and the warnings of a table, and the
+//! lines that report them; the report of a history; entries and a listing as objects of JSON; the
+//! reasons of turns; searches of a small system and of two tables; the words and texts of answers;
+//! departures that are explained; and sessions that answer commands. It has no code of its own.
 #![tactic(auto)]
 
 #[cfg(test)]
@@ -26,6 +26,8 @@ mod jugs;
 mod lines;
 #[cfg(test)]
 mod lints;
+#[cfg(test)]
+mod marks;
 #[cfg(test)]
 mod object_reports;
 #[cfg(test)]

@@ -10,9 +10,10 @@ use Rattle.apex_history.specs.Ports.{Ports}
 use Rattle.apex_console.specs.declared.CliFault.{CliFault}
 use Rattle.apex_console.specs.declared.CliFault.TheVariants.{Memory, Write}
 use Rattle.apex_views.specs.Showings.{Source}
-use Rattle.apex_views.specs.Shows.{Gives, ShowEnd, shows, stops}
+use Rattle.apex_views.specs.Departures.{Departure}
+use Rattle.apex_views.specs.Shows.{Gives, Outcome, ShowEnd, parts, shows, stops}
 use Rattle.apex_waves.specs.Dumps.{dump_text}
-use Rattle.apex_lab.specs.Ends.{End, complete, end_of_showing, fails}
+use Rattle.apex_lab.specs.Ends.{End, complete, departs, end_of_showing, fails}
 use Rattle.apex_lab.specs.declared.dumping.Dump.{Dump}
 use Rattle.apex_lab.specs.declared.faults.LabFault.TheVariants.{Common}
 
@@ -44,18 +45,34 @@ pub data RunDumpEnds (table : Table) (machine : Machine) (reported : Option CliF
       → RunDumpEnds table machine reported held failed (fails (Common Write)) after
       (one_more failed)
 
--- The ways in which the dump of a run ends: by the source of the run, the reader and the writer before,
--- the end, and the reader and the writer afterwards.
-pub data DumpEnds (source : Source) (before : Ports) : End → Ports → Type 0 where
-  -- the source gives no run: nothing was written
-  stopped : {ends : ShowEnd} {after : Ports}
-      → Gives before.left before.failed_reads source (stops ends) after.failed_reads
-      → Keeps before.held after.held → after.failed_writes ≡ before.failed_writes
-      → DumpEnds source before (end_of_showing ends) after
-  -- the source gives the run of a machine
-  ran : (table : Table) (machine : Machine) (reported : Option CliFault) → {ends : End} {after : Ports}
-      → Gives before.left before.failed_reads source (shows table machine reported)
-      after.failed_reads
-      → RunDumpEnds table machine reported before.held before.failed_writes ends
+-- the end behind the dump of a run before a departure
+abbrev pub end_behind : Departure → End → End
+end_behind departure complete = departs departure.verdict
+end_behind departure ends = ends
+
+-- The ways in which the dump of what a source gives ends: by the outcome of the source, the writer before
+-- and how many of its calls failed, the end, and the writer afterwards and how many failed.
+pub data OutcomeDumpEnds (held : Option (List ℕ)) (failed : ℕ) : Outcome → End → Option (List ℕ) → ℕ
+    → Type 0 where
+  -- there is no run: nothing was written
+  stopped : {ends : ShowEnd} {after : Option (List ℕ)} → Keeps held after
+      → OutcomeDumpEnds held failed (stops ends) (end_of_showing ends) after failed
+  -- the dump of the run of a machine
+  ran : (table : Table) (machine : Machine) (reported : Option CliFault)
+      → {ends : End} {after : Option (List ℕ)} {failures : ℕ}
+      → RunDumpEnds table machine reported held failed ends after failures
+      → OutcomeDumpEnds held failed (shows table machine reported) ends after failures
+  -- the dump of the run before a departure
+  ran_before : (table : Table) (machine : Machine) (departure : Departure)
+      → {ends : End} {after : Option (List ℕ)} {failures : ℕ}
+      → RunDumpEnds table machine None held failed ends after failures
+      → OutcomeDumpEnds held failed (parts table machine departure)
+      (end_behind departure ends) after failures
+
+-- the dump of a run has this end: by the source of the run, the reader and the writer before, and the
+-- reader and the writer afterwards
+pub record DumpEnds (source : Source) (before : Ports) (ends : End) (after : Ports) : Type 0 where
+  pub outcome : Outcome
+  pub gives : Gives before.left before.failed_reads source outcome after.failed_reads
+  pub dumps : OutcomeDumpEnds before.held before.failed_writes outcome ends
       after.held after.failed_writes
-      → DumpEnds source before ends after

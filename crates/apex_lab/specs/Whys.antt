@@ -9,8 +9,9 @@ use Rattle.apex_console.specs.declared.CliFault.{CliFault}
 use Rattle.apex_console.specs.declared.CliFault.TheVariants.{Memory, Write}
 use Rattle.apex_departures.specs.Why.{IsReasonAt, LacksEvent}
 use Rattle.apex_views.specs.Showings.{Source}
-use Rattle.apex_views.specs.Shows.{Gives, ShowEnd, shows, stops}
-use Rattle.apex_lab.specs.Ends.{End, complete, end_of_showing, fails}
+use Rattle.apex_views.specs.Departures.{Departure}
+use Rattle.apex_views.specs.Shows.{Gives, Outcome, ShowEnd, parts, shows, stops}
+use Rattle.apex_lab.specs.Ends.{End, complete, departs, end_of_showing, fails}
 use Rattle.apex_lab.specs.declared.faults.LabFault.TheVariants.{Common, NoEntry}
 
 -- the text is the reason of the entry of this number, and a line feed
@@ -38,18 +39,30 @@ pub data AnswerEnds (table : Table) (machine : Machine) (entry : ℕ) (held : Op
       → AppendsBeginning held after text
       → AnswerEnds table machine entry held failed (fails (Common Write)) after (one_more failed)
 
--- The ways in which the answer to the reason of an entry ends: by the source of the run, the number of
--- the entry, the reader and the writer before, the end, and the reader and the writer afterwards.
-pub data WhyEnds (source : Source) (entry : ℕ) (before : Ports) : End → Ports → Type 0 where
-  -- the source gives no run: nothing was written
-  stopped : {ends : ShowEnd} {after : Ports}
-      → Gives before.left before.failed_reads source (stops ends) after.failed_reads
-      → Keeps before.held after.held → after.failed_writes ≡ before.failed_writes
-      → WhyEnds source entry before (end_of_showing ends) after
-  -- the source gives the run of a machine
-  ran : (table : Table) (machine : Machine) (reported : Option CliFault) → {ends : End} {after : Ports}
-      → Gives before.left before.failed_reads source (shows table machine reported)
-      after.failed_reads
-      → AnswerEnds table machine entry before.held before.failed_writes ends
+-- The ways in which the answer about what a source gives ends: by the number of the entry, the writer
+-- before and how many of its calls failed, the outcome of the source, the end, and the writer
+-- afterwards and how many failed.
+pub data OutcomeWhyEnds (entry : ℕ) (held : Option (List ℕ)) (failed : ℕ)
+    : Outcome → End → Option (List ℕ) → ℕ → Type 0 where
+  -- there is no run: nothing was written
+  stopped : {ends : ShowEnd} {after : Option (List ℕ)} → Keeps held after
+      → OutcomeWhyEnds entry held failed (stops ends) (end_of_showing ends) after failed
+  -- the run of a machine
+  ran : (table : Table) (machine : Machine) (reported : Option CliFault)
+      → {ends : End} {after : Option (List ℕ)} {failures : ℕ}
+      → AnswerEnds table machine entry held failed ends after failures
+      → OutcomeWhyEnds entry held failed (shows table machine reported) ends after failures
+  -- the history departs: nothing was written
+  ran_before : (table : Table) (machine : Machine) (departure : Departure)
+      → {after : Option (List ℕ)} → Keeps held after
+      → OutcomeWhyEnds entry held failed (parts table machine departure)
+      (departs departure.verdict) after failed
+
+-- the answer to the reason of an entry has this end: by the source of the run, the number of the entry,
+-- the reader and the writer before, and the reader and the writer afterwards
+pub record WhyEnds (source : Source) (entry : ℕ) (before : Ports) (ends : End) (after : Ports)
+    : Type 0 where
+  pub outcome : Outcome
+  pub gives : Gives before.left before.failed_reads source outcome after.failed_reads
+  pub answers : OutcomeWhyEnds entry before.held before.failed_writes outcome ends
       after.held after.failed_writes
-      → WhyEnds source entry before ends after

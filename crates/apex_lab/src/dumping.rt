@@ -2,8 +2,10 @@
 ghost use Rattle.std.specs.Prelude.{◌≡◌, IfOk};
 ghost use Rattle.apex_history.specs.Counted.{inner_of, failures_of};
 ghost use Rattle.apex_console.specs.Streams.{ports_of};
+ghost use Rattle.apex_views.specs.Departures.{departure_said};
 ghost use Rattle.apex_views.specs.Showings.{source_said};
-ghost use Rattle.apex_lab.specs.Dumps.{DumpEnds, IsDumpOf, RunDumpEnds, end_with};
+ghost use Rattle.apex_views.specs.Shows.{outcome_with, parts};
+ghost use Rattle.apex_lab.specs.Dumps.{DumpEnds, IsDumpOf, OutcomeDumpEnds, RunDumpEnds, end_behind, end_with};
 ghost use Rattle.apex_lab.specs.Ends.{end_in};
 
 use crate::ends::Ending;
@@ -13,7 +15,7 @@ use apex_dispatch::{Kernel, events_in};
 use apex_history::{Counted, Sink, Source};
 use apex_process::QueueStore;
 use apex_types::Event;
-use apex_views::{Given, Listing, RunSource, Showing, View, given_by};
+use apex_views::{Departure, Given, GivenRun, Listing, RunSource, Showing, View, given_by};
 use apex_waves::{Sheet, print_waves};
 use std::alloc::{AllocError, Global};
 
@@ -66,8 +68,54 @@ fn write_dump<W: Sink>(alloc: Global, run: Run, writer: &mut Counted<W>) -> Resu
     }
 }
 
-/// Writes the value changes of the run that the source gives. Nothing is written if the source is
-/// at fault, or if its history departs.
+/// The end behind the dump of a run before a departure.
+fn behind(ending: Result<Ending, LabFault>, departure: Departure) -> Result<Ending, LabFault>
+    ensures { end_in result ≡ end_behind (departure_said departure) (end_in ending) }
+{
+    match ending {
+        Ok(Ending::Complete) => Ok(Ending::Departed(departure.verdict)),
+        ending => ending,
+    }
+}
+
+/// Writes the value changes of a run before a departure.
+fn dump_before<W: Sink>(
+    alloc: Global,
+    kernel: Kernel<QueueStore>,
+    departure: Departure,
+    writer: &mut Counted<W>,
+) -> Result<Ending, LabFault>
+    ensures { OutcomeDumpEnds (W.contents (inner_of writer.old)) (failures_of writer.old)
+        (parts kernel.table kernel.machine (departure_said departure)) (end_in result)
+        (W.contents (inner_of writer.new)) (failures_of writer.new) }
+{
+    let run = Run {
+        kernel,
+        fault: None,
+    };
+    let ending = write_dump(alloc, run, writer);
+    behind(ending, departure)
+}
+
+/// Writes the value changes of a run that a source gave as a listing.
+fn dump_given<W: Sink>(
+    alloc: Global,
+    run: Run,
+    departure: Option<Departure>,
+    writer: &mut Counted<W>,
+) -> Result<Ending, LabFault>
+    ensures { OutcomeDumpEnds (W.contents (inner_of writer.old)) (failures_of writer.old)
+        (outcome_with departure run.kernel.table run.kernel.machine run.fault) (end_in result)
+        (W.contents (inner_of writer.new)) (failures_of writer.new) }
+{
+    match departure {
+        None => write_dump(alloc, run, writer),
+        Some(departure) => dump_before(alloc, run.kernel, departure, writer),
+    }
+}
+
+/// Writes the value changes of the run that the source gives; of a history that departs, those before
+/// the departure. Nothing is written if the source is at fault.
 pub fn run_dump<R: Source, W: Sink>(
     alloc: Global,
     source: RunSource,
@@ -82,12 +130,12 @@ pub fn run_dump<R: Source, W: Sink>(
         source,
         view: View::Listing(Listing::Schedule),
     };
-    match given_by(alloc, &showing, reader) {
-        Ok(Given::Listing(_, run)) => write_dump(alloc, run, writer),
-        Ok(Given::Departed(verdict)) => Ok(Ending::Departed(verdict)),
+    let given = given_by(alloc, &showing, reader)?;
+    let Given { made, departure } = given;
+    match made {
+        GivenRun::Listing(_, run) => dump_given(alloc, run, departure, writer),
         // No picture is asked for.
-        Ok(Given::Picture(_)) => Err(LabFault::Common(CliFault::Memory)),
-        Ok(Given::Empty(..)) => Err(LabFault::Common(CliFault::Memory)),
-        Err(fault) => Err(LabFault::from(fault)),
+        GivenRun::Picture(_) => Err(LabFault::Common(CliFault::Memory)),
+        GivenRun::Empty(..) => Err(LabFault::Common(CliFault::Memory)),
     }
 }

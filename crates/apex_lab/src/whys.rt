@@ -4,14 +4,15 @@ ghost use Rattle.apex_history.specs.Counted.{inner_of, failures_of, CountsFailur
 ghost use Rattle.apex_console.specs.Streams.{HasWritten, HasWrittenSome, ports_of};
 ghost use Rattle.apex_views.specs.Showings.{source_said};
 ghost use Rattle.apex_lab.specs.Ends.{end_in};
-ghost use Rattle.apex_lab.specs.Whys.{AnswerEnds, WhyEnds};
+ghost use Rattle.apex_views.specs.Shows.{outcome_with};
+ghost use Rattle.apex_lab.specs.Whys.{AnswerEnds, OutcomeWhyEnds, WhyEnds};
 
 use crate::ends::Ending;
 use crate::faults::LabFault;
 use apex_console::{CliFault, Run};
 use apex_departures::why;
 use apex_history::{Counted, Sink, Source};
-use apex_views::{Given, Listing, RunSource, Showing, View, given_by};
+use apex_views::{Departure, Given, GivenRun, Listing, RunSource, Showing, View, given_by};
 use std::alloc::Global;
 use std::io;
 use std::io::Write;
@@ -58,6 +59,25 @@ fn answer<W: Sink>(
     }
 }
 
+/// Writes the reason of the entry of this number in a run that a source gave; nothing, if there is a
+/// departure behind it.
+fn answer_given<W: Sink>(
+    alloc: Global,
+    run: Run,
+    departure: Option<Departure>,
+    entry: u32,
+    writer: &mut Counted<W>,
+) -> Result<Ending, LabFault>
+    ensures { OutcomeWhyEnds entry (W.contents (inner_of writer.old)) (failures_of writer.old)
+        (outcome_with departure run.kernel.table run.kernel.machine run.fault) (end_in result)
+        (W.contents (inner_of writer.new)) (failures_of writer.new) }
+{
+    match departure {
+        None => answer(alloc, run, entry, writer),
+        Some(departure) => Ok(Ending::Departed(departure.verdict)),
+    }
+}
+
 /// Writes the reason of an entry of the run that the source gives, and a line feed. Nothing is
 /// written if the source is at fault, or if its history departs.
 pub fn run_why<R: Source, W: Sink>(
@@ -75,12 +95,12 @@ pub fn run_why<R: Source, W: Sink>(
         source,
         view: View::Listing(Listing::Schedule),
     };
-    match given_by(alloc, &showing, reader) {
-        Ok(Given::Listing(_, run)) => answer(alloc, run, entry, writer),
-        Ok(Given::Departed(verdict)) => Ok(Ending::Departed(verdict)),
+    let given = given_by(alloc, &showing, reader)?;
+    let Given { made, departure } = given;
+    match made {
+        GivenRun::Listing(_, run) => answer_given(alloc, run, departure, entry, writer),
         // No picture is asked for.
-        Ok(Given::Picture(_)) => Err(LabFault::Common(CliFault::Memory)),
-        Ok(Given::Empty(..)) => Err(LabFault::Common(CliFault::Memory)),
-        Err(fault) => Err(LabFault::from(fault)),
+        GivenRun::Picture(_) => Err(LabFault::Common(CliFault::Memory)),
+        GivenRun::Empty(..) => Err(LabFault::Common(CliFault::Memory)),
     }
 }

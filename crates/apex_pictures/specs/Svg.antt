@@ -16,6 +16,7 @@ use Rattle.apex_pictures.specs.Terms.{Caller, Cell, Entry, Notice, Reply, Wait}
 use Rattle.apex_pictures.specs.Texts.{xml_text}
 use Rattle.apex_pictures.specs.declared.excerpts.Excerpt.{Excerpt}
 use Rattle.apex_pictures.specs.declared.frames.Frame.{Frame}
+use Rattle.apex_pictures.specs.declared.marks.Mark.{Mark}
 
 -- texts one behind the other
 abbrev pub texts : List (List ℕ) → List ℕ
@@ -231,6 +232,27 @@ column_text table frame entry shown =
     start_text frame entry.number ++ marks_text table frame entry shown ++ column_end
     else []
 
+-- the place behind the last column
+abbrev pub behind : Frame → ℕ
+behind frame = frame.left + 24 * (frame.last + 1 - frame.first)
+
+-- the mark of a departure behind the last column: a line, the line that the machine expects, and the
+-- line that was given
+unfoldable pub mark_text : Frame → Mark → List ℕ
+mark_text frame mark = texts (
+    codes "<g class='departure' transform='translate("
+    ∷ decimal (behind frame)
+    ∷ codes ",0)'>\n<line class='departs' y1='" ∷ decimal frame.top ∷ codes "' y2='"
+    ∷ decimal (frame.bottom + 14) ∷ codes "'/><text class='departs' x='6' y='"
+    ∷ decimal (frame.top + 13) ∷ codes "'>expected: " ∷ xml_text mark.expected.items
+    ∷ codes "</text><text class='departs' x='6' y='" ∷ decimal (frame.top + 28)
+    ∷ codes "'>given: " ∷ xml_text mark.given.items ∷ codes "</text>\n</g>\n" ∷ [])
+
+-- the mark of a departure, if there is one
+abbrev pub mark_part : Frame → Option Mark → List ℕ
+mark_part frame None = []
+mark_part frame (Some mark) = mark_text frame mark
+
 -- the head of the group of the labels: the white behind them, up to the first column
 unfoldable pub white_text : Frame → List ℕ
 white_text frame = texts (
@@ -253,10 +275,11 @@ abbrev pub note_text : Option Excerpt → List ℕ
 note_text None = []
 note_text (Some excerpt) = excerpt_text excerpt
 
--- what comes after the columns: the group of the labels, which a script keeps in sight. It has a
--- heading for each core, a label for each process, and the key, with the note behind it.
+-- what comes after the columns: the mark of a departure, and the group of the labels, which a script
+-- keeps in sight. It has a heading for each core, a label for each process, and the key, with the note
+-- behind it.
 abbrev pub foot_text : Table → Frame → List ℕ
 foot_text table frame =
-    white_text frame ++ texts_of (heading_text frame) table.cores
+    mark_part frame frame.mark ++ white_text frame ++ texts_of (heading_text frame) table.cores
     ++ texts_of (label_text table frame) (length table.processes)
     ++ key_text frame ++ note_text frame.excerpt ++ frame.end.now

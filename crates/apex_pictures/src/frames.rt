@@ -1,11 +1,12 @@
 //! The places of the columns and of the rows of a picture.
-ghost use Rattle.std.specs.Prelude.{◌≡◌, ◌<◌, ◌≤◌, ◌^◌, length};
+ghost use Rattle.std.specs.Prelude.{◌≡◌, ◌<◌, ◌≤◌, ◌^◌, length, None, Some};
 ghost use Rattle.apex_types.specs.declared.limits.TheConstants.{MOST_CORES, MOST_PROCESSES};
 ghost use Rattle.arrayvec.specs.ArrayVec.{array_vec_len};
 ghost use Rattle.apex_pictures.specs.Excerpts.{excerpt_of, last_drawn};
-ghost use Rattle.apex_pictures.specs.Svg.{heading_of, row_of, shows};
+ghost use Rattle.apex_pictures.specs.Svg.{behind, heading_of, row_of, shows};
 
 use crate::excerpts::{Excerpt, excerpt_of, last_drawn};
+use crate::marks::Mark;
 use crate::moments::CORES;
 use crate::svg::bare_line;
 use crate::words::name_of;
@@ -31,7 +32,7 @@ const ADVANCE: u32 = 4;
 
 /// The look of the marks, and the white behind them.
 const STYLE: &str =
-    "<style>text{fill:#222}.core{font-weight:bold;fill:#555}.now{fill:#333}.number{fill:#888;font-size:8px;text-anchor:middle}.time{stroke:#999}.RUNNING{fill:#2f7d32}.READY{fill:#8fce92}.WAITING{fill:#dfe3e6}.DORMANT{fill:#fff;stroke:#eee}.owns{fill:#c62828}.ring{fill:#fff;stroke:#111;stroke-width:1.5}path{stroke:#fff}line{stroke-width:1.5;stroke-dasharray:3,2}line.time{stroke-width:1;stroke-dasharray:none}.woken{fill:#1e88e5}line.woken{stroke:#1e88e5}.released{fill:#8e24aa}line.released{stroke:#8e24aa}.missed{fill:#e53935}line.missed{stroke:#e53935}</style>\n<rect width='100%' height='100%' fill='#fff'/>\n";
+    "<style>text{fill:#222}.core{font-weight:bold;fill:#555}.now{fill:#333}.number{fill:#888;font-size:8px;text-anchor:middle}.time{stroke:#999}.RUNNING{fill:#2f7d32}.READY{fill:#8fce92}.WAITING{fill:#dfe3e6}.DORMANT{fill:#fff;stroke:#eee}.owns{fill:#c62828}.ring{fill:#fff;stroke:#111;stroke-width:1.5}path{stroke:#fff}line{stroke-width:1.5;stroke-dasharray:3,2}line.time{stroke-width:1;stroke-dasharray:none}.woken{fill:#1e88e5}line.woken{stroke:#1e88e5}.released{fill:#8e24aa}line.released{stroke:#8e24aa}.missed{fill:#e53935}line.missed{stroke:#e53935}.departs{fill:#c62828}line.departs{stroke:#c62828;stroke-width:2;stroke-dasharray:none}</style>\n<rect width='100%' height='100%' fill='#fff'/>\n";
 
 /// The meaning of each mark.
 const KEY: &str =
@@ -50,6 +51,8 @@ pub struct Frame {
     pub last: u32,
     /// What is drawn, if more was asked for.
     pub excerpt: Option<Excerpt>,
+    /// The mark of a departure, which is drawn behind the last column, if there is one.
+    pub mark: Option<Mark>,
     pub(crate) width: u32,
     /// The height at which the calls end and the rows begin.
     pub(crate) top: u32,
@@ -199,6 +202,7 @@ impl Frame {
         ensures last { result.last ≡ last_drawn first last }
         ensures excerpt { result.excerpt
             ≡ excerpt_of first last (length kernel.now.machine.history) }
+        ensures unmarked { result.mark ≡ None }
     {
         let table = kernel.table();
         let entries = kernel.entries().len();
@@ -216,6 +220,7 @@ impl Frame {
             first,
             last,
             excerpt,
+            mark: None,
             width: (left + STEP * columns + ADVANCE * longest + 30).max(700),
             top,
             bottom,
@@ -227,6 +232,30 @@ impl Frame {
             key: KEY,
             end: END,
         }
+    }
+
+    /// The frame with the mark of a departure, and with room for it.
+    pub fn marked(mut self, mark: Mark) -> Frame
+        ensures first { result.first ≡ self.first }
+        ensures last { result.last ≡ self.last }
+        ensures excerpt { result.excerpt ≡ self.excerpt }
+        ensures mark { result.mark ≡ Some mark }
+    {
+        let columns = (self.last.saturating_sub(self.first)).saturating_add(1);
+        let letters = mark.letters();
+        let behind = self.left.saturating_add(STEP.saturating_mul(columns));
+        let width = behind.saturating_add(LETTER * letters + 30);
+        self.width = self.width.max(width);
+        self.mark = Some(mark);
+        self
+    }
+
+    /// The place behind the last column.
+    pub(crate) fn behind(&self) -> u64
+        ensures { result ≡ behind self.now }
+    {
+        let columns = (u64::from(self.last) + 1).saturating_sub(u64::from(self.first));
+        u64::from(self.left) + 24 * columns
     }
 
     /// Whether the entry of this number is drawn.

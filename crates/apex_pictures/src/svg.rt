@@ -2,10 +2,11 @@
 ghost use Rattle.std.specs.Prelude.{◌≡◌, ◌≤◌, ◌++◌, drop, flat_map, length, OnOk};
 ghost use Rattle.apex_calls.specs.Lines.{IsPrintable, line_of};
 ghost use Rattle.apex_machine.specs.text.Listing.{texts_of};
-ghost use Rattle.apex_pictures.specs.Svg.{bare, bar_text, call_end, call_text, cell_at, cell_end, cell_part, cell_text, circle_text, column_end, column_text, dash_text, dash_to, excerpt_text, foot_text, heading_text, head_text, instant_text, is_timed, key_text, label_text, marks_text, mutex_text, note_text, notice_process, owns_part, ring_text, said_text, start_text, time_text, title_text, waits_part, wedge_text, white_text};
+ghost use Rattle.apex_pictures.specs.Svg.{bare, bar_text, call_end, call_text, cell_at, cell_end, cell_part, cell_text, circle_text, column_end, column_text, dash_text, dash_to, excerpt_text, foot_text, heading_text, head_text, instant_text, is_timed, key_text, label_text, mark_part, mark_text, marks_text, mutex_text, note_text, notice_process, owns_part, ring_text, said_text, start_text, time_text, title_text, waits_part, wedge_text, white_text};
 
 use crate::excerpts::Excerpt;
 use crate::frames::Frame;
+use crate::marks::Mark;
 use crate::moments::{Cell, Moment};
 use crate::texts::{Part, put, put_all, put_xml};
 use crate::words::{id_part, name_of, notice_word, put_object, put_wait, state_word};
@@ -554,6 +555,42 @@ pub(crate) fn put_column(
     put_column_end(text)
 }
 
+/// Puts the mark of a departure behind the last column.
+fn put_mark(text: &mut Vec<u8>, frame: &Frame, mark: &Mark) -> Result<(), AllocError>
+    ensures { OnOk result (text.new.items ≡ text.old.items ++ mark_text frame.now mark.now) }
+{
+    put_all(
+        text,
+        &[
+            Part::Plain("<g class='departure' transform='translate("),
+            Part::Number(frame.behind()),
+            Part::Plain(",0)'>\n<line class='departs' y1='"),
+            Part::Number(u64::from(frame.top)),
+            Part::Plain("' y2='"),
+            Part::Number(u64::from(frame.bottom) + 14),
+            Part::Plain("'/><text class='departs' x='6' y='"),
+            Part::Number(u64::from(frame.top) + 13),
+            Part::Plain("'>expected: "),
+            Part::Xml(mark.expected.as_slice()),
+            Part::Plain("</text><text class='departs' x='6' y='"),
+            Part::Number(u64::from(frame.top) + 28),
+            Part::Plain("'>given: "),
+            Part::Xml(mark.given.as_slice()),
+            Part::Plain("</text>\n</g>\n"),
+        ],
+    )
+}
+
+/// Puts the mark of a departure, if there is one.
+fn put_mark_part(text: &mut Vec<u8>, frame: &Frame) -> Result<(), AllocError>
+    ensures { OnOk result (text.new.items ≡ text.old.items ++ mark_part frame.now frame.now.mark) }
+{
+    match &frame.mark {
+        Some(mark) => put_mark(text, frame, mark),
+        None => Ok(()),
+    }
+}
+
 /// Puts the head of the group of the labels.
 fn put_white(text: &mut Vec<u8>, frame: &Frame) -> Result<(), AllocError>
     ensures { OnOk result (text.new.items ≡ text.old.items ++ white_text frame.now) }
@@ -611,12 +648,13 @@ fn put_note(text: &mut Vec<u8>, excerpt: &Option<Excerpt>) -> Result<(), AllocEr
     }
 }
 
-/// Puts what comes after the columns: the headings of the cores, the labels of the rows, and the key,
-/// with the note behind it.
+/// Puts what comes after the columns: the mark of a departure, the headings of the cores, the labels of
+/// the rows, and the key, with the note behind it.
 #[tactic(auto, using(std::proofs::Common::append_assoc))]
 pub(crate) fn put_foot(text: &mut Vec<u8>, table: &Table, frame: &Frame) -> Result<(), AllocError>
     ensures { OnOk result (text.new.items ≡ text.old.items ++ foot_text table.now frame.now) }
 {
+    put_mark_part(text, frame)?;
     put_white(text, frame)?;
     put_headings(text, table, frame)?;
     put_labels(text, table, frame)?;

@@ -1,3 +1,4 @@
+pub mod Before
 pub mod Endings
 pub mod FaultPlaces
 pub mod Gives
@@ -6,3 +7,4 @@ pub mod ListingEndings
 pub mod Parting
 pub mod Reporting
 pub mod Spans
+pub mod Told

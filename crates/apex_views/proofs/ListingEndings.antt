@@ -13,9 +13,9 @@ use Rattle.apex_views.proofs.Endings.{shows_prefix, shows_whole}
 
 module _ (listing : Listing) (table : Table) (machine : Machine) {held after : Option (List ℕ)} {failed failures : ℕ} where
   pub lists_whole : Appends held after (listing_text listing table machine) → failures ≡ failed
-      → Shows (listed listing) table machine held failed None after failures
+      → Shows (listed listing) table machine None held failed None after failures
   lists_whole appends same = shows_whole (listing_text listing table machine, refl, appends) same
 
   pub lists_prefix : AppendsBeginning held after (listing_text listing table machine) → failures ≡ one_more failed
-      → Shows (listed listing) table machine held failed (Some Write) after failures
+      → Shows (listed listing) table machine None held failed (Some Write) after failures
   lists_prefix begun same = shows_prefix (listing_text listing table machine, refl, begun) same

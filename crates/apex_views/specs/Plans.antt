@@ -29,6 +29,7 @@ use Rattle.apex_pictures.specs.declared.Excerpt.{Excerpt}
 use Rattle.apex_pictures.specs.declared.Frame.{Frame}
 use Rattle.apex_pictures.specs.declared.Style.{Style}
 use Rattle.apex_pictures.specs.declared.Style.TheVariants as style
+use Rattle.apex_views.specs.Departures.{Departure, Marks, departure_behind}
 use Rattle.apex_views.specs.Showings.{Picture, View, drawn, listed, svg, trace}
 use Rattle.apex_views.specs.Windows.{span_in}
 use Rattle.apex_views.specs.declared.plans.Plan.{Plan}
@@ -52,26 +53,31 @@ pub record IsListOf (limit : ℕ) (all events : List Event) (is_cut : Bool) : Ty
   pub whole : is_cut ≡ false → (rest ≡ []) × (length events ≤ limit)
   pub cut : is_cut ≡ true → (length events ≡ limit) × (0 < length rest)
 
--- a frame is for a span of a history: it shows the entries of the span, `MOST_COLUMNS` of them at the
--- most, and says so if these are not all
-pub record IsFrameFor (span : Span) (history : List Entry) (frame : Frame) : Type 0 where
+-- A frame is for a span of a history: it shows the entries of the span, `MOST_COLUMNS` of them at the
+-- most, and says so if these are not all. It marks the departure behind the history, if there is one
+-- and the last entry is drawn.
+pub record IsFrameFor (span : Span) (history : List Entry) (departure : Option Departure)
+    (frame : Frame) : Type 0 where
   pub first : frame.first ≡ span.first
   pub last : frame.last ≡ last_drawn span.first span.last
   pub excerpt : frame.excerpt ≡ excerpt_of span.first span.last (length history)
+  pub mark : Marks (departure_behind frame.last (length history) departure) frame.mark
 
 -- a frame is for a window of a history: it shows the entries from the first one of the window to the
 -- last
-pub record IsFrameOf (window : Window) (history : List Entry) (frame : Frame) : Type 0 where
+pub record IsFrameOf (window : Window) (history : List Entry) (departure : Option Departure)
+    (frame : Frame) : Type 0 where
   pub span : Span
   pub is : span_in window history ≡ Some span
-  pub shows : IsFrameFor span history frame
+  pub shows : IsFrameFor span history departure frame
 
--- a style is that of a picture of a history
-abbrev pub IsStyleOf : Picture → List Entry → Style → Type 0
-IsStyleOf (svg window) history (style.Svg frame) = IsFrameOf window history frame
-IsStyleOf (svg window) history style.Trace = ⊥
-IsStyleOf trace history (style.Svg frame) = ⊥
-IsStyleOf trace history style.Trace = Unit {0}
+-- a style is that of a picture of a history, behind which there may be a departure
+abbrev pub IsStyleOf : Picture → List Entry → Option Departure → Style → Type 0
+IsStyleOf (svg window) history departure (style.Svg frame) =
+    IsFrameOf window history departure frame
+IsStyleOf (svg window) history departure style.Trace = ⊥
+IsStyleOf trace history departure (style.Svg frame) = ⊥
+IsStyleOf trace history departure style.Trace = Unit {0}
 
 -- what is drawn of a span, in a run of so many entries; none if it is all of it
 abbrev pub excerpt_at : Option Span → ℕ → Option Excerpt
@@ -94,9 +100,9 @@ abbrev pub machine_of : Plan → Machine
 machine_of plan = run plan.table (opening plan.table) plan.events.items
 
 -- the plan is for this picture, and its events are of the table's cores
-pub record IsPlanFor (picture : Picture) (plan : Plan) : Type 0 where
+pub record IsPlanFor (picture : Picture) (departure : Option Departure) (plan : Plan) : Type 0 where
   pub within : All (IsWithin plan.table.cores) plan.events.items
-  pub style : IsStyleOf picture (machine_of plan).history plan.style
+  pub style : IsStyleOf picture (machine_of plan).history departure plan.style
 
 -- the entries of a history, in this form
 abbrev pub history_in : Form → tables.Table → List Entry → List ℕ
@@ -122,23 +128,24 @@ listing_text (lists.Report form) table machine = report_in form table machine.hi
 listing_text lists.Schedule table machine =
     schedule_text (events_of machine.history) ++ codes "\n"
 
--- the text shows a machine in this view
-abbrev pub IsTextOf : View → tables.Table → Machine → List ℕ → Type 0
-IsTextOf (drawn picture) table machine text =
-    (style : Style) × IsStyleOf picture machine.history style
+-- the text shows a machine in this view, behind whose history there may be a departure
+abbrev pub IsTextOf : View → tables.Table → Machine → Option Departure → List ℕ → Type 0
+IsTextOf (drawn picture) table machine departure text =
+    (style : Style) × IsStyleOf picture machine.history departure style
     × (text ≡ picture_text style table machine)
-IsTextOf (listed asked) table machine text = text ≡ listing_text asked table machine
+IsTextOf (listed asked) table machine departure text = text ≡ listing_text asked table machine
 
 -- known bytes grow by a text that shows a machine
-abbrev pub AppendsView : Option (List ℕ) → Option (List ℕ) → View → tables.Table → Machine → Type 0
-AppendsView old new view table machine =
-    (text : List ℕ) × IsTextOf view table machine text × Appends old new text
+abbrev pub AppendsView : Option (List ℕ) → Option (List ℕ) → View → tables.Table → Machine
+    → Option Departure → Type 0
+AppendsView old new view table machine departure =
+    (text : List ℕ) × IsTextOf view table machine departure text × Appends old new text
 
 -- known bytes grow by a prefix of such a text
 abbrev pub AppendsPrefixOfView : Option (List ℕ) → Option (List ℕ) → View → tables.Table → Machine
-    → Type 0
-AppendsPrefixOfView old new view table machine =
-    (text : List ℕ) × IsTextOf view table machine text × AppendsBeginning old new text
+    → Option Departure → Type 0
+AppendsPrefixOfView old new view table machine departure =
+    (text : List ℕ) × IsTextOf view table machine departure text × AppendsBeginning old new text
 
 -- the fault of a drawing
 abbrev pub fault_of_drawing : DrawFault → CliFault

@@ -1,5 +1,5 @@
 -- What a source gives, and how a run is shown.
-use Rattle.std.specs.Prelude.{◌≡◌, ℕ, List, Option, None, Some, Result, Ok, Err}
+use Rattle.std.specs.Prelude.{◌≡◌, ℕ, List, Option, None, Some, Result, Ok, Err, option_map}
 use Rattle.std.specs.Io.KnownBytes.{Keeps}
 use Rattle.apex_history.specs.Counted.{one_more}
 use Rattle.apex_history.specs.Ports.{Ports}
@@ -9,21 +9,22 @@ use Rattle.apex_types.specs.declared.entries.Entry.{Entry}
 use Rattle.apex_check.specs.Ahead.{IsAhead}
 use Rattle.apex_check.specs.Legal.{IsLegal}
 use Rattle.apex_check.specs.Texts.{HasNoSeparator, IsParted}
-use Rattle.apex_check.specs.Verdicts.{IsAtFault, Judges, verdict_text}
+use Rattle.apex_check.specs.Verdicts.{IsAtFault}
 use Rattle.apex_check.specs.declared.CheckFault.{CheckFault}
-use Rattle.apex_check.specs.declared.Verdict.TheVariants.{DepartsAt}
 use Rattle.apex_console.specs.Faults.{fault_of_checking}
 use Rattle.apex_console.specs.Reports.{Answer, answer_of, refuses, runs_to}
 use Rattle.apex_console.specs.declared.CliFault.{CliFault}
 use Rattle.apex_console.specs.declared.CliFault.TheVariants.{Memory, NoSeparator, Read, Write}
 use Rattle.apex_schedules.specs.Readings.{AreItemsOf}
 use Rattle.apex_schedules.specs.declared.Item.{Item}
+use Rattle.apex_views.specs.Departures.{Departure, DepartsBehind, departure_at, departure_said}
 use Rattle.apex_views.specs.Faults.{IsBadIn}
 use Rattle.apex_views.specs.Paced.{paced_answer}
 use Rattle.apex_pictures.specs.declared.Excerpt.{Excerpt}
 use Rattle.apex_views.specs.Plans.{AppendsPrefixOfView, AppendsView, IsPlanFor, excerpt_in, machine_of}
-use Rattle.apex_views.specs.Showings.{Picture, Showing, Source, View, drawn, history, listed, paced, schedule, schedule_read, svg}
+use Rattle.apex_views.specs.Showings.{Picture, Showing, Source, View, drawn, history, listed, paced, schedule, schedule_read, svg, trace}
 use Rattle.apex_views.specs.Windows.{empty_in, span_in}
+use Rattle.apex_views.specs.declared.departures.Departure.{Departure as DepartureIn}
 use Rattle.apex_views.specs.declared.faults.BadSchedule.{BadSchedule}
 use Rattle.apex_views.specs.declared.faults.ShowFault.{ShowFault}
 use Rattle.apex_views.specs.declared.faults.ShowFault.TheVariants.{Common, Empty, Schedule as BadText}
@@ -31,7 +32,8 @@ use Rattle.apex_views.specs.declared.plans.Plan.{Plan}
 use Rattle.apex_views.specs.declared.showing.Shown.{Shown}
 use Rattle.apex_views.specs.declared.showing.Shown.TheVariants as ending
 use Rattle.apex_views.specs.declared.sources.Given.{Given}
-use Rattle.apex_views.specs.declared.sources.Given.TheVariants as given
+use Rattle.apex_views.specs.declared.sources.GivenRun.{GivenRun}
+use Rattle.apex_views.specs.declared.sources.GivenRun.TheVariants as run_in
 use Rattle.apex_views.specs.declared.windows.Window.{Window}
 
 -- the end of a showing
@@ -62,10 +64,12 @@ end_in (Ok (ending.InPart excerpt)) = in_part excerpt
 end_in (Ok (ending.Departed verdict)) = departs verdict.items
 end_in (Err fault) = fails fault
 
--- what a source gives: an end, or a machine to show, with the fault that is reported besides
+-- what a source gives: an end; a machine to show, with the fault that is reported besides; or the
+-- machine before a departure
 pub data Outcome : Type 0 where
   stops : ShowEnd → Outcome
   shows : tables.Table → Machine → Option CliFault → Outcome
+  parts : tables.Table → Machine → Departure → Outcome
 
 -- This is the answer to the items of the schedule behind a table. The table comes before the first
 -- line `%%`, and the schedule behind it.
@@ -83,6 +87,19 @@ Answers (schedule items) bytes answer = answer_of items bytes ≡ answer
 Answers schedule_read bytes answer = IsBehind bytes answer
 Answers (paced pace until) bytes answer = paced_answer pace until bytes ≡ answer
 Answers history bytes answer = ⊥
+
+-- what the text of a history gives, memory aside
+pub data IsToldBy (text : List ℕ) : Outcome → Type 0 where
+  -- the text has a fault
+  at_fault : {fault : CheckFault} → IsAtFault text fault
+      → IsToldBy text (stops (fails (Common (fault_of_checking fault))))
+  -- the history departs from what the partition does
+  departed : (table : tables.Table) (machine : Machine) → {n : ℕ} {expected : Option Entry}
+      → DepartsBehind text table n expected machine
+      → IsToldBy text (parts table machine (departure_at text table n expected))
+  -- the history is legal
+  legal : {n : ℕ} → (is : IsLegal text n)
+      → IsToldBy text (shows is.table (run is.table (opening is.table) is.events) None)
 
 -- What a source gives, by the bytes that the reader had left and how many of its calls failed
 -- before, and how many failed afterwards.
@@ -108,101 +125,140 @@ pub data Gives (left : Option (List ℕ)) (failed : ℕ) : Source → Outcome �
   ill_scheduled : (bytes table behind : List ℕ) → {bad : BadSchedule} → IsAhead bytes left
       → IsParted bytes table behind → IsBadIn behind bad
       → Gives left failed schedule_read (stops (fails (BadText bad))) failed
-  -- the text has a fault
-  at_fault : (text : List ℕ) → {fault : CheckFault} → IsAhead text left → IsAtFault text fault
-      → Gives left failed history (stops (fails (Common (fault_of_checking fault)))) failed
-  -- the history departs from what the partition does
-  departed : (text : List ℕ) (table : tables.Table) → {n : ℕ} {expected : Option Entry}
-      → IsAhead text left → Judges text table (DepartsAt n expected)
-      → Gives left failed history
-      (stops (departs (verdict_text table (DepartsAt n expected)))) failed
-  -- the history is legal
-  legal : (text : List ℕ) → {n : ℕ} → IsAhead text left → (is : IsLegal text n)
-      → Gives left failed history
-      (shows is.table (run is.table (opening is.table) is.events) None) failed
+  -- the text is that of a history
+  told : (text : List ℕ) → {outcome : Outcome} → IsAhead text left → IsToldBy text outcome
+      → Gives left failed history outcome failed
 
--- The ways in which the showing of a machine ends: by the view, the writer before and how many of
--- its calls failed, the fault, and the writer afterwards and how many failed.
+-- The ways in which the showing of a machine ends, behind whose history there may be a departure: by
+-- the view, the writer before and how many of its calls failed, the fault, and the writer afterwards
+-- and how many failed.
 pub data Shows (view : View) (table : tables.Table) (machine : Machine)
-    (held : Option (List ℕ)) (failed : ℕ)
+    (departure : Option Departure) (held : Option (List ℕ)) (failed : ℕ)
     : Option CliFault → Option (List ℕ) → ℕ → Type 0 where
   -- memory was refused before anything was written
   unbegun : {after : Option (List ℕ)} → Keeps held after
-      → Shows view table machine held failed (Some Memory) after failed
+      → Shows view table machine departure held failed (Some Memory) after failed
   -- the whole text was written
-  whole : {after : Option (List ℕ)} → AppendsView held after view table machine
-      → Shows view table machine held failed None after failed
+  whole : {after : Option (List ℕ)} → AppendsView held after view table machine departure
+      → Shows view table machine departure held failed None after failed
   -- memory was refused: a prefix of a picture was written
   cut_off : {picture : Picture} {after : Option (List ℕ)} → view ≡ drawn picture
-      → AppendsPrefixOfView held after view table machine
-      → Shows view table machine held failed (Some Memory) after failed
+      → AppendsPrefixOfView held after view table machine departure
+      → Shows view table machine departure held failed (Some Memory) after failed
   -- a write failed: a prefix of the text was written
-  unwritten : {after : Option (List ℕ)} → AppendsPrefixOfView held after view table machine
-      → Shows view table machine held failed (Some Write) after (one_more failed)
+  unwritten : {after : Option (List ℕ)} → AppendsPrefixOfView held after view table machine departure
+      → Shows view table machine departure held failed (Some Write) after (one_more failed)
 
 -- the fault of the showing, or else the one that is reported besides
 abbrev pub first_fault : Option CliFault → Option CliFault → Option CliFault
 first_fault None reported = reported
 first_fault (Some fault) reported = Some fault
 
+-- the outcome of a machine, with the fault that is reported besides, or of that before a departure
+abbrev pub outcome_with : Option DepartureIn → tables.Table → Machine → Option CliFault → Outcome
+outcome_with None table machine fault = shows table machine fault
+outcome_with (Some departure) table machine fault =
+    parts table machine (departure_said departure)
+
+-- the outcome of a run, or of that before a departure
+abbrev pub outcome_of_run : Option DepartureIn → GivenRun → Outcome
+outcome_of_run departure (run_in.Picture plan) =
+    outcome_with departure plan.table (machine_of plan) plan.fault
+outcome_of_run departure (run_in.Listing listing run) =
+    outcome_with departure run.kernel.table run.kernel.machine run.fault
+outcome_of_run departure (run_in.Empty window run) =
+    outcome_with departure run.kernel.table run.kernel.machine run.fault
+
 -- what a source gave
 abbrev pub outcome_in : Result Given ShowFault → Outcome
-outcome_in (Ok (given.Picture plan)) = shows plan.table (machine_of plan) plan.fault
-outcome_in (Ok (given.Listing listing run)) = shows run.kernel.table run.kernel.machine run.fault
-outcome_in (Ok (given.Empty window run)) = shows run.kernel.table run.kernel.machine run.fault
-outcome_in (Ok (given.Departed verdict)) = stops (departs verdict.items)
+outcome_in (Ok given) = outcome_of_run given.departure given.made
 outcome_in (Err fault) = stops (fails fault)
 
 -- the plan is for the picture of this view
-pub record IsPlanIn (view : View) (plan : Plan) : Type 0 where
+pub record IsPlanIn (view : View) (departure : Option Departure) (plan : Plan) : Type 0 where
   pub picture : Picture
   pub is : view ≡ drawn picture
-  pub planned : IsPlanFor picture plan
+  pub planned : IsPlanFor picture departure plan
 
 -- the view is a picture of this window, in which a history has no entry
 pub record IsEmptyIn (view : View) (window : Window) (history : List Entry) : Type 0 where
   pub is : view ≡ drawn (svg window)
   pub none : span_in window history ≡ None
 
--- a run that a source gave is to be shown in this view: its picture is planned for the view, the view
--- is its listing, or the run has no entry in the window of the view
+-- A run that a source gave, behind which there may be a departure, is to be shown in this view: its
+-- picture is planned for the view, the view is its listing, or the run has no entry in the window of
+-- the view.
+abbrev pub IsRunFor : View → Option Departure → GivenRun → Type 0
+IsRunFor view departure (run_in.Picture plan) = IsPlanIn view departure plan
+IsRunFor view departure (run_in.Listing listing run) = view ≡ listed listing
+IsRunFor view departure (run_in.Empty window run) =
+    IsEmptyIn view window run.kernel.machine.history
+
+-- what a source gave is to be shown in this view
 abbrev pub IsGivenFor : View → Given → Type 0
-IsGivenFor view (given.Picture plan) = IsPlanIn view plan
-IsGivenFor view (given.Listing listing run) = view ≡ listed listing
-IsGivenFor view (given.Empty window run) = IsEmptyIn view window run.kernel.machine.history
-IsGivenFor view (given.Departed verdict) = Unit {0}
+IsGivenFor view given = IsRunFor view (option_map departure_said given.departure) given.made
 
 -- the run that was given is that of an answer
-abbrev pub IsRunTo : Answer → Given → Type 0
-IsRunTo answer (given.Picture plan) = answer ≡ runs_to plan.table (machine_of plan) plan.fault
-IsRunTo answer (given.Listing listing run) =
+abbrev pub IsRunTo : Answer → GivenRun → Type 0
+IsRunTo answer (run_in.Picture plan) = answer ≡ runs_to plan.table (machine_of plan) plan.fault
+IsRunTo answer (run_in.Listing listing run) =
     answer ≡ runs_to run.kernel.table run.kernel.machine run.fault
-IsRunTo answer (given.Empty window run) =
+IsRunTo answer (run_in.Empty window run) =
     answer ≡ runs_to run.kernel.table run.kernel.machine run.fault
-IsRunTo answer (given.Departed verdict) = ⊥
 
--- The ways in which the showing of a run ends: by the run, the reader and the writer before, the end,
--- and the reader and the writer afterwards.
-pub data ShowEnds (showing : Showing) (before : Ports) : ShowEnd → Ports → Type 0 where
-  -- the source gives nothing to show: nothing was written
-  stopped : {ends : ShowEnd} {after : Ports}
-      → Gives before.left before.failed_reads showing.source (stops ends) after.failed_reads
-      → Keeps before.held after.held → after.failed_writes ≡ before.failed_writes
-      → ShowEnds showing before ends after
-  -- the machine that the source gives is shown
+-- what was given is a run, and that of an answer
+abbrev pub IsGivenTo : Answer → Given → Type 0
+IsGivenTo answer given = (given.departure ≡ None) × IsRunTo answer given.made
+
+-- the end behind a picture that is drawn up to a departure, by the fault of the drawing
+abbrev pub end_before : Departure → Option CliFault → ShowEnd
+end_before departure None = departs departure.verdict
+end_before departure (Some fault) = fails (Common fault)
+
+-- a view shows nothing of a history that departs: it is a listing, or the history has no entry in its
+-- window before the departure
+abbrev pub IsUnshown : View → List Entry → Type 0
+IsUnshown (drawn (svg window)) entries = span_in window entries ≡ None
+IsUnshown (drawn trace) entries = ⊥
+IsUnshown (listed listing) entries = Unit {0}
+
+-- The ways in which the showing of what a source gives ends: by the view, the writer before and how
+-- many of its calls failed, the outcome of the source, the end, and the writer afterwards and how many
+-- failed.
+pub data ShowsOutcome (view : View) (held : Option (List ℕ)) (failed : ℕ)
+    : Outcome → ShowEnd → Option (List ℕ) → ℕ → Type 0 where
+  -- there is nothing to show: nothing was written
+  stopped : {ends : ShowEnd} {after : Option (List ℕ)} → Keeps held after
+      → ShowsOutcome view held failed (stops ends) ends after failed
+  -- the machine is shown
   shown : (table : tables.Table) (machine : Machine) (fault reported : Option CliFault)
-      → {after : Ports}
-      → Gives before.left before.failed_reads showing.source (shows table machine reported)
-      after.failed_reads
-      → Shows showing.view table machine before.held before.failed_writes fault
-      after.held after.failed_writes
-      → ShowEnds showing before
-      (end_of (excerpt_in showing.view machine.history) (first_fault fault reported)) after
-  -- the machine that the source gives has no entry in the window of the picture: nothing was written
+      → {after : Option (List ℕ)} {failures : ℕ}
+      → Shows view table machine None held failed fault after failures
+      → ShowsOutcome view held failed (shows table machine reported)
+      (end_of (excerpt_in view machine.history) (first_fault fault reported)) after failures
+  -- the machine has no entry in the window of the picture: nothing was written
   empty : (table : tables.Table) (machine : Machine) (reported : Option CliFault) (window : Window)
-      → {after : Ports}
-      → Gives before.left before.failed_reads showing.source (shows table machine reported)
-      after.failed_reads
-      → IsEmptyIn showing.view window machine.history
-      → Keeps before.held after.held → after.failed_writes ≡ before.failed_writes
-      → ShowEnds showing before (fails (Empty (empty_in window machine))) after
+      → {after : Option (List ℕ)} → IsEmptyIn view window machine.history → Keeps held after
+      → ShowsOutcome view held failed (shows table machine reported)
+      (fails (Empty (empty_in window machine))) after failed
+  -- the picture of the machine before a departure is drawn, and marks it
+  cut_short : (table : tables.Table) (machine : Machine) (departure : Departure)
+      (picture : Picture) (fault : Option CliFault) → {after : Option (List ℕ)} {failures : ℕ}
+      → view ≡ drawn picture
+      → Shows view table machine (Some departure) held failed fault after failures
+      → ShowsOutcome view held failed (parts table machine departure)
+      (end_before departure fault) after failures
+  -- nothing of the machine before a departure is shown: nothing was written
+  unshown : (table : tables.Table) (machine : Machine) (departure : Departure)
+      → {after : Option (List ℕ)} → IsUnshown view machine.history → Keeps held after
+      → ShowsOutcome view held failed (parts table machine departure)
+      (departs departure.verdict) after failed
+
+-- the showing of a run has this end: by the run, the reader and the writer before, and the reader and
+-- the writer afterwards
+pub record ShowEnds (showing : Showing) (before : Ports) (ends : ShowEnd) (after : Ports)
+    : Type 0 where
+  pub outcome : Outcome
+  pub gives : Gives before.left before.failed_reads showing.source outcome after.failed_reads
+  pub shows : ShowsOutcome showing.view before.held before.failed_writes outcome ends
+      after.held after.failed_writes

@@ -34,7 +34,7 @@ fn print_lines<W: Sink>(
     page: &mut Page,
     writer: &mut Counted<W>,
 ) -> Result<(), CliFault>
-    ensures { Shows (listed (Lines Text)) kernel.now.table kernel.now.machine
+    ensures { Shows (listed (Lines Text)) kernel.now.table kernel.now.machine None
         (W.contents (inner_of writer.old)) (failures_of writer.old) (fault_in result)
         (W.contents (inner_of writer.new)) (failures_of writer.new) }
 {
@@ -51,7 +51,7 @@ fn write_lines<W: Sink>(
     kernel: &Kernel<QueueStore>,
     writer: &mut Counted<W>,
 ) -> Result<(), CliFault>
-    ensures { Shows (listed (Lines Text)) kernel.now.table kernel.now.machine
+    ensures { Shows (listed (Lines Text)) kernel.now.table kernel.now.machine None
         (W.contents (inner_of writer.old)) (failures_of writer.old) (fault_in result)
         (W.contents (inner_of writer.new)) (failures_of writer.new) }
 {
@@ -64,7 +64,7 @@ fn write_history_objects<W: Sink>(
     kernel: &Kernel<QueueStore>,
     writer: &mut Counted<W>,
 ) -> Result<(), CliFault>
-    ensures { Shows (listed (Lines Json)) kernel.now.table kernel.now.machine
+    ensures { Shows (listed (Lines Json)) kernel.now.table kernel.now.machine None
         (W.contents (inner_of writer.old)) (failures_of writer.old) (fault_in result)
         (W.contents (inner_of writer.new)) (failures_of writer.new) }
 {
@@ -82,7 +82,7 @@ fn write_status<W: Sink>(
     kernel: &Kernel<QueueStore>,
     writer: &mut Counted<W>,
 ) -> Result<(), CliFault>
-    ensures { Shows (listed (Status Text)) kernel.now.table kernel.now.machine
+    ensures { Shows (listed (Status Text)) kernel.now.table kernel.now.machine None
         (W.contents (inner_of writer.old)) (failures_of writer.old) (fault_in result)
         (W.contents (inner_of writer.new)) (failures_of writer.new) }
 {
@@ -98,7 +98,7 @@ fn write_status_objects<W: Sink>(
     kernel: &Kernel<QueueStore>,
     writer: &mut Counted<W>,
 ) -> Result<(), CliFault>
-    ensures { Shows (listed (Status Json)) kernel.now.table kernel.now.machine
+    ensures { Shows (listed (Status Json)) kernel.now.table kernel.now.machine None
         (W.contents (inner_of writer.old)) (failures_of writer.old) (fault_in result)
         (W.contents (inner_of writer.new)) (failures_of writer.new) }
 {
@@ -136,7 +136,7 @@ fn write_report<W: Sink>(
     kernel: &Kernel<QueueStore>,
     writer: &mut Counted<W>,
 ) -> Result<(), CliFault>
-    ensures { Shows (listed (ReportIn form)) kernel.now.table kernel.now.machine
+    ensures { Shows (listed (ReportIn form)) kernel.now.table kernel.now.machine None
         (W.contents (inner_of writer.old)) (failures_of writer.old) (fault_in result)
         (W.contents (inner_of writer.new)) (failures_of writer.new) }
 {
@@ -166,7 +166,7 @@ fn write_schedule<W: Sink>(
     kernel: &Kernel<QueueStore>,
     writer: &mut Counted<W>,
 ) -> Result<(), CliFault>
-    ensures { Shows (listed Schedule) kernel.now.table kernel.now.machine
+    ensures { Shows (listed Schedule) kernel.now.table kernel.now.machine None
         (W.contents (inner_of writer.old)) (failures_of writer.old) (fault_in result)
         (W.contents (inner_of writer.new)) (failures_of writer.new) }
 {
@@ -184,7 +184,7 @@ fn write_listing<W: Sink>(
     kernel: &Kernel<QueueStore>,
     writer: &mut Counted<W>,
 ) -> Result<(), CliFault>
-    ensures { Shows (listed listing) kernel.now.table kernel.now.machine
+    ensures { Shows (listed listing) kernel.now.table kernel.now.machine None
         (W.contents (inner_of writer.old)) (failures_of writer.old) (fault_in result)
         (W.contents (inner_of writer.new)) (failures_of writer.new) }
 {
@@ -206,7 +206,7 @@ pub fn list<W: Sink>(
     writer: &mut Counted<W>,
 ) -> Result<(), CliFault>
     ensures { (fault : Option CliFaultOf)
-        × Shows (listed listing) run.kernel.table run.kernel.machine
+        × Shows (listed listing) run.kernel.table run.kernel.machine None
         (W.contents (inner_of writer.old)) (failures_of writer.old)
         fault (W.contents (inner_of writer.new)) (failures_of writer.new)
         × (fault_in result ≡ first_fault fault run.fault) }

@@ -1,17 +1,19 @@
 //! The pictures that are drawn of a run.
-ghost use Rattle.std.specs.Prelude.{◌≡◌, true, All, IfOk, MatchOption, Option};
+ghost use Rattle.std.specs.Prelude.{◌≡◌, true, All, IfOk, MatchOption, Option, option_map};
 ghost use Rattle.apex_machine.specs.Machine.{opening, run};
 ghost use Rattle.apex_machine.specs.Events.{IsWithin};
 ghost use Rattle.apex_history.specs.Counted.{inner_of, failures_of};
 ghost use Rattle.apex_console.specs.Faults.{fault_in};
 ghost use Rattle.apex_schedules.specs.Schedule.{are_cores_below, events_of_items};
 ghost use Rattle.apex_console.specs.declared.CliFault.{CliFault as CliFaultOf};
+ghost use Rattle.apex_views.specs.Departures.{Departure as DepartureAt, departure_said};
 ghost use Rattle.apex_views.specs.Shows.{Shows, first_fault};
 ghost use Rattle.apex_pictures.specs.declared.Style.TheVariants.{Trace};
 ghost use Rattle.apex_views.specs.Plans.{IsFrameOf, IsListOf, IsRunOf, IsStyleOf, excerpt_with, fault_of_drawing, machine_of};
 ghost use Rattle.apex_views.specs.Showings.{Picture as PictureAsked, drawn};
 ghost use Rattle.apex_views.specs.Windows.{span_in};
 
+use crate::departures::{Departure, marked};
 use crate::faults::first_fault;
 use crate::windows::Window;
 use apex_console::{CliFault, booted, repeated};
@@ -47,13 +49,24 @@ impl Plan {
     }
 }
 
-/// The frame for a window of a kernel's history. None if the history has no entry in it.
-pub fn frame_for<S: Store>(window: Window, kernel: &Kernel<S>) -> Option<Frame>
-    ensures { MatchOption result (span_in window kernel.now.machine.history ≡ None)
-        (IsFrameOf window kernel.now.machine.history) }
+/// The frame for a window of a kernel's history, behind which there may be a departure. None if the
+/// history has no entry in the window.
+pub fn frame_for<S: Store>(
+    alloc: Global,
+    window: Window,
+    departure: &Option<Departure>,
+    kernel: &Kernel<S>,
+) -> Result<Option<Frame>, AllocError>
+    ensures { IfOk result
+        (λ found. MatchOption found (span_in window kernel.now.machine.history ≡ None)
+        (IsFrameOf window kernel.now.machine.history (option_map departure_said departure.now))) }
 {
-    let span = window.span_in(kernel)?;
-    Some(Frame::new(kernel, span.first, span.last))
+    let Some(span) = window.span_in(kernel) else {
+        return Ok(None);
+    };
+    let frame = Frame::new(kernel, span.first, span.last);
+    let frame = marked(alloc, frame, departure, kernel.entries().len())?;
+    Ok(Some(frame))
 }
 
 /// The plan of a picture of a kernel's history in this style, with this fault.
@@ -156,8 +169,9 @@ fn draw_on<W: Sink>(
     requires opened { kernel.old.machine ≡ opening kernel.old.table }
     requires within { All (IsWithin kernel.old.table.cores) events.now }
     ensures { let machine = run kernel.old.table (opening kernel.old.table) events.now in
-        (picture : PictureAsked) → IsStyleOf picture machine.history style.now
-        → Shows (drawn picture) kernel.old.table machine
+        (picture : PictureAsked) (departure : Option DepartureAt)
+        → IsStyleOf picture machine.history departure style.now
+        → Shows (drawn picture) kernel.old.table machine departure
         (W.contents (inner_of writer.old)) (failures_of writer.old) (fault_in result)
         (W.contents (inner_of writer.new)) (failures_of writer.new) }
 {
@@ -177,8 +191,9 @@ fn draw_run<W: Sink>(
 ) -> Result<(), CliFault>
     requires { All (IsWithin table.cores) events.now }
     ensures { let machine = run table (opening table) events.now in
-        (picture : PictureAsked) → IsStyleOf picture machine.history style.now
-        → Shows (drawn picture) table machine
+        (picture : PictureAsked) (departure : Option DepartureAt)
+        → IsStyleOf picture machine.history departure style.now
+        → Shows (drawn picture) table machine departure
         (W.contents (inner_of writer.old)) (failures_of writer.old) (fault_in result)
         (W.contents (inner_of writer.new)) (failures_of writer.new) }
 {
@@ -186,20 +201,39 @@ fn draw_run<W: Sink>(
     draw_on(alloc, style, &mut kernel, events, writer)
 }
 
-/// Draws the picture of a plan, and answers its fault once it is drawn.
-pub fn show<W: Sink>(alloc: Global, plan: Plan, writer: &mut Counted<W>) -> Result<(), CliFault>
+/// Draws the picture of a plan, whatever fault the plan has.
+pub fn draw_plan<W: Sink>(
+    alloc: Global,
+    plan: Plan,
+    writer: &mut Counted<W>,
+) -> Result<(), CliFault>
     requires { All (IsWithin plan.table.cores) plan.events.items }
-    ensures { (picture : PictureAsked) → IsStyleOf picture (machine_of plan).history plan.style
-        → (fault : Option CliFaultOf) × Shows (drawn picture) plan.table (machine_of plan) (W.contents (inner_of writer.old))
-        (failures_of writer.old) fault (W.contents (inner_of writer.new)) (failures_of writer.new)
-        × (fault_in result ≡ first_fault fault plan.fault) }
+    ensures { (picture : PictureAsked) (departure : Option DepartureAt)
+        → IsStyleOf picture (machine_of plan).history departure plan.style
+        → Shows (drawn picture) plan.table (machine_of plan) departure
+        (W.contents (inner_of writer.old)) (failures_of writer.old) (fault_in result)
+        (W.contents (inner_of writer.new)) (failures_of writer.new) }
 {
     let Plan {
         style,
         table,
         events,
-        fault,
+        fault: _,
     } = plan;
-    let shown = draw_run(alloc, &style, table, events.as_slice(), writer);
+    draw_run(alloc, &style, table, events.as_slice(), writer)
+}
+
+/// Draws the picture of a plan, and answers its fault once it is drawn.
+pub fn show<W: Sink>(alloc: Global, plan: Plan, writer: &mut Counted<W>) -> Result<(), CliFault>
+    requires { All (IsWithin plan.table.cores) plan.events.items }
+    ensures { (picture : PictureAsked) (departure : Option DepartureAt)
+        → IsStyleOf picture (machine_of plan).history departure plan.style
+        → (fault : Option CliFaultOf) × Shows (drawn picture) plan.table (machine_of plan)
+        departure (W.contents (inner_of writer.old)) (failures_of writer.old)
+        fault (W.contents (inner_of writer.new)) (failures_of writer.new)
+        × (fault_in result ≡ first_fault fault plan.fault) }
+{
+    let fault = plan.fault;
+    let shown = draw_plan(alloc, plan, writer);
     first_fault(shown, fault)
 }

@@ -1,11 +1,18 @@
-//! What a source gives: a run that is to be shown, or the verdict on a history.
-ghost use Rattle.std.specs.Prelude.{IfOk, IfErr};
+//! What a source gives: a run that is to be shown, and the departure behind it.
+ghost use Rattle.std.specs.Prelude.{◌≡◌, ◌-◌, ◌⊎◌, IfOk, IfErr, Ok, Option, option_map, take};
+ghost use Rattle.apex_machine.specs.Machine.{events_of, opening, run as after_events};
+ghost use Rattle.apex_check.specs.Steps.{IsTellable};
+ghost use Rattle.apex_check.specs.Verdicts.{HasFollowed};
+ghost use Rattle.apex_console.specs.declared.CliFault.TheVariants.{Memory};
 ghost use Rattle.apex_history.specs.Counted.{inner_of, failures_of};
 ghost use Rattle.apex_console.specs.Reports.{Refuses, answer_of, runs_to};
-ghost use Rattle.apex_views.specs.Shows.{Gives, IsGivenFor, IsRunTo, outcome_in};
+ghost use Rattle.apex_views.specs.Departures.{Departure as DepartureAt, departure_said};
+ghost use Rattle.apex_views.specs.Shows.{Gives, IsGivenFor, IsGivenTo, IsRunFor, IsRunTo, IsToldBy, fails, outcome_in, parts, stops};
+ghost use Rattle.apex_views.specs.declared.faults.ShowFault.TheVariants.{Common};
 ghost use Rattle.apex_views.specs.Plans.{IsStyleOf};
 ghost use Rattle.apex_views.specs.Showings.{Picture as PictureAsked, drawn, history, paced, picture_said, schedule, schedule_read, source_said, svg, view_said};
 
+use crate::departures::{Departure, kernel_before};
 use crate::faults::{ShowFault, read_items};
 use crate::parts::parted;
 use crate::plans::{Plan, frame_for, plan_in, trace_plan};
@@ -14,67 +21,106 @@ use crate::showings::{Listing, Picture, RunSource, Showing, View};
 use crate::windows::Window;
 use apex_check::{Followed, Verdict, follow, verdict_text};
 use apex_console::{CliFault, Run, run_of, table_for};
-use apex_history::{Counted, Lines, Source, read_all};
+use apex_departures::{fault_in_memory, shown_lines};
+use apex_dispatch::Kernel;
+use apex_history::{Counted, Source, read_all};
 use apex_pace::Pace;
 use apex_pictures::Style;
 use apex_process::QueueStore;
 use apex_schedules::Item;
 use std::alloc::{AllocError, Global};
 
-/// What a source gives.
+/// A run that a source gives, as it is to be shown.
 #[derive(Drop)]
-pub enum Given {
+pub enum GivenRun {
     /// A run of which a picture is to be drawn.
     Picture(Plan),
     /// A run of which a listing is to be written.
     Listing(Listing, Run),
     /// A run of which this window is to be drawn, and which has no entry in it.
     Empty(Window, Run),
-    /// The text of the verdict on a history that departs from what the partition does.
-    Departed(Lines),
+}
+
+/// What a source gives.
+#[derive(Drop)]
+pub struct Given {
+    /// The run; if the source is a history that departs, that before the departure.
+    pub made: GivenRun,
+    /// The departure, if the source is a history that departs from what the partition does.
+    pub departure: Option<Departure>,
 }
 
 /// A run of which a picture is to be drawn in this style.
-fn planned(alloc: Global, style: Style, run: Run) -> Result<Given, AllocError>
+fn planned(alloc: Global, style: Style, run: Run) -> Result<GivenRun, AllocError>
     ensures run { IfOk result (IsRunTo (runs_to run.kernel.table run.kernel.machine run.fault)) }
-    ensures view { (picture : PictureAsked) → IsStyleOf picture run.kernel.machine.history style
-        → IfOk result (IsGivenFor (drawn picture)) }
+    ensures view { (picture : PictureAsked) (departure : Option DepartureAt)
+        → IsStyleOf picture run.kernel.machine.history departure style
+        → IfOk result (IsRunFor (drawn picture) departure) }
 {
     let plan = plan_in(alloc, style, run.kernel, run.fault)?;
-    Ok(Given::Picture(plan))
+    Ok(GivenRun::Picture(plan))
 }
 
-/// A run of which a window is to be drawn as SVG.
-fn svg_of(alloc: Global, window: Window, run: Run) -> Result<Given, AllocError>
+/// A run of which a window is to be drawn as SVG, with the departure behind it.
+fn svg_of(
+    alloc: Global,
+    window: Window,
+    departure: &Option<Departure>,
+    run: Run,
+) -> Result<GivenRun, AllocError>
     ensures run { IfOk result (IsRunTo (runs_to run.kernel.table run.kernel.machine run.fault)) }
-    ensures view { IfOk result (IsGivenFor (drawn (svg window))) }
+    ensures view { IfOk result (IsRunFor (drawn (svg window))
+        (option_map departure_said departure.now)) }
 {
-    match frame_for(window, &run.kernel) {
+    let found = frame_for(alloc, window, departure, &run.kernel)?;
+    match found {
         Some(frame) => planned(alloc, Style::Svg(frame), run),
-        None => Ok(Given::Empty(window, run)),
+        None => Ok(GivenRun::Empty(window, run)),
     }
 }
 
-/// A run of which a picture is to be drawn.
-fn pictured(alloc: Global, picture: Picture, run: Run) -> Result<Given, AllocError>
+/// A run of which a picture is to be drawn, with the departure behind it.
+fn pictured(
+    alloc: Global,
+    picture: Picture,
+    departure: &Option<Departure>,
+    run: Run,
+) -> Result<GivenRun, AllocError>
     ensures run { IfOk result (IsRunTo (runs_to run.kernel.table run.kernel.machine run.fault)) }
-    ensures view { IfOk result (IsGivenFor (drawn (picture_said picture))) }
+    ensures view { IfOk result (IsRunFor (drawn (picture_said picture))
+        (option_map departure_said departure.now)) }
 {
     match picture {
-        Picture::Svg(window) => svg_of(alloc, window, run),
+        Picture::Svg(window) => svg_of(alloc, window, departure, run),
         Picture::Trace => planned(alloc, Style::Trace, run),
     }
 }
 
-/// A run, to be shown in this view.
-fn given_in(alloc: Global, view: View, run: Run) -> Result<Given, AllocError>
+/// A run, to be shown in this view, with the departure behind it.
+fn run_in(
+    alloc: Global,
+    view: View,
+    departure: &Option<Departure>,
+    run: Run,
+) -> Result<GivenRun, AllocError>
     ensures run { IfOk result (IsRunTo (runs_to run.kernel.table run.kernel.machine run.fault)) }
-    ensures view { IfOk result (IsGivenFor (view_said view)) }
+    ensures view { IfOk result (IsRunFor (view_said view)
+        (option_map departure_said departure.now)) }
 {
     match view {
-        View::Picture(picture) => pictured(alloc, picture, run),
-        View::Listing(listing) => Ok(Given::Listing(listing, run)),
+        View::Picture(picture) => pictured(alloc, picture, departure, run),
+        View::Listing(listing) => Ok(GivenRun::Listing(listing, run)),
     }
+}
+
+/// A run, to be shown in this view, behind which there is no departure.
+fn given_in(alloc: Global, view: View, run: Run) -> Result<Given, AllocError>
+    ensures run { IfOk result (IsGivenTo (runs_to run.kernel.table run.kernel.machine run.fault)) }
+    ensures view { IfOk result (IsGivenFor (view_said view)) }
+{
+    let departure = None;
+    let made = run_in(alloc, view, &departure, run)?;
+    Ok(Given { made, departure })
 }
 
 /// What the items give, for the table of this text.
@@ -82,14 +128,17 @@ fn given_in(alloc: Global, view: View, run: Run) -> Result<Given, AllocError>
 /// The errors in the order of the checks: the table's fault, `Usage` if an item is of a core that
 /// the table lacks; `Memory` whenever memory is refused.
 fn given_by_items(alloc: Global, view: View, items: &[Item], text: &[u8]) -> Result<Given, CliFault>
-    ensures ok { IfOk result (IsRunTo (answer_of items.now text.now)) }
+    ensures ok { IfOk result (IsGivenTo (answer_of items.now text.now)) }
     ensures view { IfOk result (IsGivenFor (view_said view)) }
     ensures err { IfErr result (λ fault. Refuses fault (answer_of items.now text.now)) }
 {
     if let View::Picture(Picture::Trace) = view {
         let table = table_for(alloc, items, text)?;
         let plan = trace_plan(alloc, items, table)?;
-        return Ok(Given::Picture(plan));
+        return Ok(Given {
+            made: GivenRun::Picture(plan),
+            departure: None,
+        });
     }
     let run = run_of(alloc, items, text)?;
     let given = given_in(alloc, view, run)?;
@@ -150,6 +199,84 @@ fn given_by_pace<R: Source>(
     Ok(given)
 }
 
+/// What a history gives that departs at the line of this number, by the kernel behind the entry
+/// there.
+fn given_before(
+    alloc: Global,
+    view: View,
+    number: u32,
+    kernel: Kernel<QueueStore>,
+    departure: Departure,
+) -> Result<Given, AllocError>
+    ensures gives { IfOk result (λ given. outcome_in (Ok given) ≡ parts kernel.table
+        (after_events kernel.table (opening kernel.table) (take (number - 1)
+        (events_of kernel.machine.history))) (departure_said departure)) }
+    ensures view { IfOk result (IsGivenFor (view_said view)) }
+{
+    let kernel = kernel_before(alloc, kernel, number)?;
+    let run = Run {
+        kernel,
+        fault: None,
+    };
+    let departure = Some(departure);
+    let made = run_in(alloc, view, &departure, run)?;
+    Ok(Given { made, departure })
+}
+
+/// What a text gives that was followed.
+fn given_followed(
+    alloc: Global,
+    view: View,
+    text: &[u8],
+    followed: Followed<QueueStore>,
+) -> Result<Given, AllocError>
+    requires followed { HasFollowed text.now followed.kernel.table followed.verdict
+        followed.kernel.machine }
+    requires tellable { IsTellable followed.kernel.table followed.verdict }
+    ensures gives { IfOk result (λ given. IsToldBy text.now (outcome_in (Ok given))) }
+    ensures view { IfOk result (IsGivenFor (view_said view)) }
+{
+    let Followed { verdict, kernel } = followed;
+    match &verdict {
+        Verdict::Legal(_) => {
+            let run = Run {
+                kernel,
+                fault: None,
+            };
+            let given = given_in(alloc, view, run)?;
+            Ok(given)
+        }
+        Verdict::DepartsAt(number, expected) => {
+            let table = kernel.table();
+            let told = verdict_text(table, &verdict);
+            let lines = shown_lines(alloc, table, text, *number, expected)?;
+            let departure = Departure {
+                verdict: told,
+                lines,
+            };
+            let given = given_before(alloc, view, *number, kernel, departure)?;
+            Ok(given)
+        }
+    }
+}
+
+/// What the text of a history gives. Its errors are those of [`follow`].
+fn given_by_text(alloc: Global, view: View, text: &[u8]) -> Result<Given, CliFault>
+    ensures gives { IfOk result (λ given. IsToldBy text.now (outcome_in (Ok given))) }
+    ensures view { IfOk result (IsGivenFor (view_said view)) }
+    ensures err { IfErr result
+        (λ fault. (fault ≡ Memory) ⊎ IsToldBy text.now (stops (fails (Common fault)))) }
+{
+    let mut reader = Counted::new(text);
+    let followed = follow(alloc, |table| QueueStore::new(alloc, table), &mut reader);
+    let followed = match followed {
+        Ok(followed) => followed,
+        Err(fault) => return Err(CliFault::from(fault_in_memory(fault))),
+    };
+    let given = given_followed(alloc, view, text, followed)?;
+    Ok(given)
+}
+
 /// What the history that the reader has gives, behind its table.
 fn given_by_history<R: Source>(
     alloc: Global,
@@ -160,22 +287,9 @@ fn given_by_history<R: Source>(
         history (outcome_in result) (failures_of reader.new) }
     ensures view { IfOk result (IsGivenFor (view_said view)) }
 {
-    let followed = follow(alloc, |table| QueueStore::new(alloc, table), reader);
-    let Followed { verdict, kernel } = match followed {
-        Ok(followed) => followed,
-        Err(fault) => return Err(ShowFault::Common(CliFault::from(fault))),
-    };
-    match &verdict {
-        Verdict::Legal(_) => {
-            let run = Run {
-                kernel,
-                fault: None,
-            };
-            let given = given_in(alloc, view, run)?;
-            Ok(given)
-        }
-        Verdict::DepartsAt(..) => Ok(Given::Departed(verdict_text(kernel.table(), &verdict))),
-    }
+    let text = read_all(alloc, reader)?;
+    let given = given_by_text(alloc, view, text.as_slice())?;
+    Ok(given)
 }
 
 /// What the source of a run that is to be shown gives.

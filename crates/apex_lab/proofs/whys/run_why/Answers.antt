@@ -1,16 +1,18 @@
--- How the answer ends, by what the source gives.
-use Rattle.std.proofs.Common.{refl}
+-- How it ends, by what the source gives.
 use Rattle.std.proofs.KnownBytes.{Keeps-refl}
+use Rattle.std.proofs.lemmas.Result.{err_from_is_err_and}
 use Rattle.apex_views.specs.Shows as showing
-use Rattle.apex_lab.specs.Whys.{ran, stopped}
+use Rattle.apex_lab.specs.Whys.{stopped}
 use Rattle.apex_lab.proofs.whys.run_why.Goals as goal
 
-pub returns-in-Ok-Listing : goal.returns-in-Ok-Listing
-returns-in-Ok-Listing g c = ran _ _ _ (rw c.in-Ok-Listing.field-0-is at c.in-Ok-Listing.ensures.gives) c.answer.ensures
+pub returns-in_err-given : goal.returns-in_err-given
+returns-in_err-given g c =
+    let p = err_from_is_err_and c.from_residual.result c.from_residual.ensures.1 in
+    rw (p.1, p.2) (record { outcome = _; gives = c.in_err-given.ensures.gives; answers = stopped {ends = showing.fails c.in_err-given.field-0.0} (Keeps-refl _) })
 
-pub returns-in-Ok-Departed : goal.returns-in-Ok-Departed
-returns-in-Ok-Departed g c =
-    stopped {ends = showing.departs c.in-Ok-Departed.verdict.items} (rw c.in-Ok-Departed.field-0-is at c.in-Ok-Departed.ensures.gives) (Keeps-refl _) refl
-
-pub returns : goal.returns
-returns g c = rw c.from.ensures (stopped {ends = showing.fails c.in-Err.fault} c.in-Err.ensures.gives (Keeps-refl _) refl)
+pub returns-in-Listing : goal.returns-in-Listing
+returns-in-Listing g c = record {
+  outcome = _;
+  gives = rw c.in-Listing.is at c.in_ok-given.ensures.gives;
+  answers = c.answer_given.ensures;
+}

@@ -1,27 +1,21 @@
--- What a history gives, by its verdict.
-use Rattle.std.proofs.Common.{None, refl}
+-- What a history gives, by its text.
+use Rattle.std.proofs.Common.{refl}
 use Rattle.std.proofs.lemmas.Result.{err_from_is_err_and}
-use Rattle.apex_console.specs.Reports.{runs_to}
-use Rattle.apex_views.proofs.Endings.{gives_departure, gives_fault, gives_legal, gives_no_memory, outcome_is}
+use Rattle.apex_views.proofs.Endings.{gives_told, gives_unread, gives_untold}
 use Rattle.apex_views.proofs.sources.given_by_history.Goals as goal
 
-pub returns-in-Err-clause-gives : goal.returns-in-Err-clause-gives
-returns-in-Err-clause-gives g c = rw c.from.ensures (gives_fault _ c.in-Err.fault c.in-Err.ensures.err c.in-Err.ensures.counted)
-
-pub returns-in_err-given-in-Legal-clause-gives : goal.returns-in_err-given-in-Legal-clause-gives
-returns-in_err-given-in-Legal-clause-gives g c =
+pub returns-in_err-text-clause-gives : goal.returns-in_err-text-clause-gives
+returns-in_err-text-clause-gives g c =
     let p = err_from_is_err_and c.from_residual.result c.from_residual.ensures.1 in
-    rw (p.1, p.2) (gives_no_memory _ c.in-Ok.ensures.counted)
+    rw (p.1, p.2) (gives_unread _ c.in_err-text.field-0.0 c.in_err-text.ensures.counted)
 
-pub returns-in_ok-given-in-Legal-clause-gives : goal.returns-in_ok-given-in-Legal-clause-gives
-returns-in_ok-given-in-Legal-clause-gives g c =
-    let found = c.in-Ok.followed in
-    rw (outcome_is (runs_to found.kernel.table found.kernel.machine None) c.in_ok-given-in-Legal.given c.in_ok-given-in-Legal.ensures.run)
-    (gives_legal _ found.kernel.table _ found.verdict _ found.kernel.machine _ _ c.in-Ok.ensures.ok c.in-Legal.is
-    refl refl refl c.in-Ok.ensures.counted)
+pub returns-in_err-given-clause-gives : goal.returns-in_err-given-clause-gives
+returns-in_err-given-clause-gives g c =
+    let p = err_from_is_err_and c.from_residual-in_err-given.result c.from_residual-in_err-given.ensures.1 in
+    rw (p.1, p.2) (gives_untold _ c.in_ok-text.text.items c.in_err-given.field-0.0 c.in_ok-text.ensures.bytes
+    (rw c.as_slice.ensures.value at c.in_err-given.ensures.err) c.in_ok-text.ensures.counted)
 
-pub returns-in-DepartsAt-clause-gives : goal.returns-in-DepartsAt-clause-gives
-returns-in-DepartsAt-clause-gives g c =
-    let found = c.in-Ok.followed in
-    gives_departure _ found.kernel.table found.verdict _ _ found.kernel.machine _ c.in-Ok.ensures.ok c.in-DepartsAt.is
-    (rw c.table.ensures at c.verdict_text.ensures) c.in-Ok.ensures.counted
+pub returns-clause-gives : goal.returns-clause-gives
+returns-clause-gives g c =
+    gives_told _ c.in_ok-text.text.items _ c.in_ok-text.ensures.bytes (rw c.as_slice.ensures.value at c.in_ok-given.ensures.gives)
+    c.in_ok-text.ensures.counted

@@ -8,9 +8,11 @@ use Rattle.apex_views.proofs.sources.given_by_items.Goals as goal
 
 pub returns-in-Picture-Trace-clause-ok : goal.returns-in-Picture-Trace-clause-ok
 returns-in-Picture-Trace-clause-ok c =
-    let plan = c.in_ok-plan.plan in
-    rw c.in_ok-plan.ensures.table (list_answer c.args.items.now c.args.text.now c.in_ok-table.table plan.events.items plan.fault
-    c.in_ok-table.ensures.table c.in_ok-table.ensures.below c.in_ok-plan.ensures.run)
+    let plan = c.in_ok-plan.plan in (
+      refl,
+      rw c.in_ok-plan.ensures.table (list_answer c.args.items.now c.args.text.now c.in_ok-table.table plan.events.items plan.fault
+          c.in_ok-table.ensures.table c.in_ok-table.ensures.below c.in_ok-plan.ensures.run),
+    )
 
 pub returns-in_err-plan-clause-err : goal.returns-in_err-plan-clause-err
 returns-in_err-plan-clause-err c =

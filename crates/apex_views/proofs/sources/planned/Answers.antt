@@ -4,7 +4,7 @@ use Rattle.apex_machine.specs.Machine.{Machine}
 use Rattle.apex_views.proofs.sources.planned.Goals as goal
 
 pub returns-clause-view : goal.returns-clause-view
-returns-clause-view c = λ picture styled. record {
+returns-clause-view c = λ picture departure styled. record {
   picture = picture;
   is = refl;
   planned = record {

@@ -1,0 +1,66 @@
+//! The mark of a departure in a picture.
+
+use crate::scans::booted;
+use apex_history::Counted;
+use apex_pictures::{Frame, Mark, Style, draw};
+use apex_table::read_table;
+use apex_types::{CoreId, Event};
+use std::alloc::Global;
+use std::mem::drop;
+use std::process::Abort;
+
+/// The two init steps start the process.
+const TABLE: &str = r#"
+cores = 1
+
+[[process]]
+name = "P"
+priority = 10
+start = true
+script = ["GET_MY_ID"]
+"#;
+
+/// The end of the picture's last column, and the mark behind it.
+const MARK: &str =
+    "</g>\n<g class='departure' transform='translate(129,0)'>\n<line class='departs' y1='";
+
+/// The two lines of the mark.
+const LINES: [&str; 2] = [
+    "'>expected: 4 0 core0 1 GET_MY_ID -&gt; NO_ERROR:1</text>",
+    "'>given: 4 0 core0 1 &lt;&amp;\\x09</text>\n</g>\n<g id='labels'>",
+];
+
+fn bytes_of<R: Abort>(rt: &R, alloc: Global, text: &str) -> Vec<u8> {
+    let mut bytes = Vec::new(alloc);
+    bytes
+        .extend_from_slice(text.as_bytes())
+        .expect(rt, "memory");
+    bytes
+}
+
+/// The picture of three turns, behind which a line departs.
+fn picture_of<R: Abort>(rt: &R, alloc: Global) -> Vec<u8> {
+    let table = read_table(alloc, TABLE.as_bytes()).expect(rt, "the table is lawful");
+    assert!(rt; table.cores() == 1);
+    let mut kernel = booted(rt, alloc, table);
+    let mark = Mark {
+        expected: bytes_of(rt, alloc, "4 0 core0 1 GET_MY_ID -> NO_ERROR:1"),
+        given: bytes_of(rt, alloc, "4 0 core0 1 <&\\x09"),
+    };
+    let style = Style::Svg(Frame::new(&kernel, 1, 3).marked(mark));
+    let turns = [Event::Turn(CoreId::new(0)); 3];
+    let mut picture = Counted::new(Vec::new(alloc));
+    let drawn = draw(alloc, &style, &mut kernel, &turns, &mut picture);
+    drop(kernel);
+    drawn.expect(rt, "memory");
+    picture.into_inner()
+}
+
+#[test]
+fn a_departure_stands_behind_the_last_column(rt: HostRuntime) {
+    let picture = picture_of(&rt, rt.alloc());
+    let text = str::from_utf8(picture.as_slice()).expect(&rt, "a picture is text");
+    let (_, rest) = text.split_once(MARK).expect(&rt, "the mark");
+    let (_, rest) = rest.split_once(LINES[0]).expect(&rt, "the expected line");
+    assert!(&rt; rest.split_once(LINES[1]).is_some());
+}
