@@ -47,7 +47,7 @@ fn picture_of<R: Abort>(rt: &R, alloc: Global) -> Vec<u8> {
         expected: bytes_of(rt, alloc, "4 0 core0 1 GET_MY_ID -> NO_ERROR:1"),
         given: bytes_of(rt, alloc, "4 0 core0 1 <&\\x09"),
     };
-    let style = Style::Svg(Frame::new(&kernel, 1, 3).marked(mark));
+    let style = Style::Svg(Frame::new(&kernel, 1, 3, None).marked(mark));
     let turns = [Event::Turn(CoreId::new(0)); 3];
     let mut picture = Counted::new(Vec::new(alloc));
     let drawn = draw(alloc, &style, &mut kernel, &turns, &mut picture);

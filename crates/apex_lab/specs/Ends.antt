@@ -1,7 +1,7 @@
 -- The ends of the program.
 use Rattle.std.specs.Prelude.{ℕ, List, [], Result, Ok, Err}
-use Rattle.apex_pictures.specs.declared.Excerpt.{Excerpt}
-use Rattle.apex_views.specs.Faults.{excerpt_line}
+use Rattle.apex_views.specs.Faults.{part_line}
+use Rattle.apex_views.specs.declared.plans.Part.{Part}
 use Rattle.apex_views.specs.Shows.{ShowEnd}
 use Rattle.apex_views.specs.Shows as showing
 use Rattle.apex_lab.specs.Faults.{fault_of_showing, line_of_fault, status_of_fault}
@@ -15,7 +15,7 @@ pub data End : Type 0 where
   -- table
   complete : End
   -- this part of a run was shown, of which more was asked for: that is reported
-  in_part : Excerpt → End
+  in_part : Part → End
   -- the history departs from what the partition does: the verdict's text is reported
   departs : List ℕ → End
   -- a search found a schedule
@@ -32,14 +32,14 @@ pub data End : Type 0 where
 -- the end with that of a showing
 abbrev pub end_of_showing : ShowEnd → End
 end_of_showing showing.complete = complete
-end_of_showing (showing.in_part excerpt) = in_part excerpt
+end_of_showing (showing.in_part part) = in_part part
 end_of_showing (showing.departs report) = departs report
 end_of_showing (showing.fails fault) = fails (fault_of_showing fault)
 
 -- the end of an outcome
 abbrev pub end_in : Result Ending LabFault → End
 end_in (Ok Complete) = complete
-end_in (Ok (InPart excerpt)) = in_part excerpt
+end_in (Ok (InPart part)) = in_part part
 end_in (Ok (Departed verdict)) = departs verdict.items
 end_in (Ok Found) = finds
 end_in (Ok Explained) = explains
@@ -52,7 +52,7 @@ end_in (Err fault) = fails fault
 -- a text that is linted is no table; else the status of the fault
 abbrev pub status_of : End → ℕ
 status_of complete = 0
-status_of (in_part excerpt) = 0
+status_of (in_part part) = 0
 status_of (departs report) = 1
 status_of finds = 1
 status_of explains = 1
@@ -63,7 +63,7 @@ status_of (fails fault) = status_of_fault fault
 -- what is reported at the end
 abbrev pub report_of : End → List ℕ
 report_of complete = []
-report_of (in_part excerpt) = excerpt_line excerpt
+report_of (in_part part) = part_line part
 report_of (departs report) = report
 report_of finds = []
 report_of explains = []

@@ -11,6 +11,7 @@ use Rattle.apex_objects.specs.declared.Form.{Form}
 use Rattle.apex_views.specs.Faults.{IsBadIn}
 use Rattle.apex_views.specs.Showings.{Showing, Source, View, drawn, history, listed, paced, schedule, schedule_read, showing_said, showing_with, source_said, svg, trace}
 use Rattle.apex_lab.specs.Lints.{Lint, lint_asked, lint_said}
+use Rattle.apex_lab.specs.Names.{names_in}
 use Rattle.apex_lab.specs.Numbers.{pace_in, time_of}
 use Rattle.apex_lab.specs.Questions.{search_asked}
 use Rattle.apex_lab.specs.Windows.{window_between}
@@ -72,9 +73,11 @@ source_in by_schedule_read = Ok schedule_read
 source_in (by_pace until turns early) = or_unasked ill_formed (paced_source until turns early)
 source_in by_history = Ok history
 
--- how a run is shown; none if a bound is ill-formed
+-- how a run is shown; none if a bound or a name is ill-formed
 abbrev pub view_in : Shown → Option View
-view_in (as_svg first last) = option_map (λ window. drawn (svg window)) (window_between first last)
+view_in (as_svg first last only) =
+    option_and_then (λ window. option_map (λ names. drawn (svg window names)) (names_in only))
+    (window_between first last)
 view_in as_trace = Some (drawn trace)
 view_in (as_listing listing) = Some (listed listing)
 

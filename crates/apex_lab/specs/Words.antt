@@ -26,11 +26,13 @@ view_command name =
     (option_rule (codes "turns")))
     (option_rule (codes "early"))
 
--- `svg`, which has `[--from N] [--to M]` too
+-- `svg`, which has `[--from N] [--to M] [--only NAME,..]` too
 abbrev pub svg : App
 svg =
-    with_rule (with_rule (view_command (codes "svg")) (option_rule (codes "from")))
-    (option_rule (codes "to"))
+    with_rule
+    (with_rule (with_rule (view_command (codes "svg")) (option_rule (codes "from")))
+    (option_rule (codes "to")))
+    (option_rule (codes "only"))
 
 -- the command of this name, with `[--json]` too
 abbrev pub json_view_command : Text → App
@@ -120,7 +122,7 @@ pub data Given : Type 0 where
 -- how a run is shown
 pub data Shown : Type 0 where
   -- as SVG, with the texts of the first bound and of the last one, if they are given
-  as_svg : Option Text → Option Text → Shown
+  as_svg : Option Text → Option Text → Option Text → Shown
   -- as a trace
   as_trace : Shown
   -- as this listing
@@ -170,8 +172,9 @@ given_said source.History = by_history
 
 -- how a run is shown, of a value of the program
 abbrev pub shown_said : ViewWords → Shown
-shown_said (view.Svg first last) =
+shown_said (view.Svg first last only) =
     as_svg (option_map (λ text. text.now) first) (option_map (λ text. text.now) last)
+    (option_map (λ text. text.now) only)
 shown_said view.Trace = as_trace
 shown_said (view.Listing listing) = as_listing listing
 
@@ -229,7 +232,9 @@ shown_in shown rows = option_map (λ given. show_of given shown) (given_in rows)
 
 -- how the SVG for the rows of a command is shown
 abbrev pub svg_in : List Row → Shown
-svg_in rows = as_svg (first_of (codes "from") rows) (first_of (codes "to") rows)
+svg_in rows =
+    as_svg (first_of (codes "from") rows) (first_of (codes "to") rows)
+    (first_of (codes "only") rows)
 
 -- the form of a listing, by the text of the flag
 abbrev pub form_of : Option Text → Form

@@ -4,13 +4,12 @@ ghost use Rattle.apex_history.specs.Counted.{inner_of, failures_of};
 ghost use Rattle.apex_console.specs.Streams.{Told};
 ghost use Rattle.apex_lab.specs.Ends.{end_in, report_of, status_of};
 ghost use Rattle.apex_lab.specs.Faults.{line_of_fault};
-ghost use Rattle.apex_views.specs.Faults.{excerpt_line};
+ghost use Rattle.apex_views.specs.Faults.{part_line};
 
 use crate::faults::{LabFault, USAGE, entry_line, process_line, states_line};
 use apex_console::{CliFault, fault_line, write_error};
 use apex_history::{Counted, Lines, Sink};
-use apex_pictures::Excerpt;
-use apex_views::{excerpt_line, schedule_line, window_line};
+use apex_views::{Part, part_line, schedule_line, window_line};
 
 /// The end of the program if it meets no fault.
 #[derive(Drop)]
@@ -18,8 +17,8 @@ pub enum Ending {
     /// All was done: the run or the reason was shown, the history is legal, no schedule leads to what a search looks for, or there is no warning about
     /// a table.
     Complete,
-    /// This part of a run was shown, of which more was asked for.
-    InPart(Excerpt),
+    /// A run was shown without this.
+    InPart(Part),
     /// The history departs from what the partition does: the text of the verdict.
     Departed(Lines),
     /// A search found a schedule.
@@ -74,13 +73,13 @@ fn tell_fault<E: Sink>(fault: &LabFault, error_writer: &mut Counted<E>)
     }
 }
 
-/// Reports the part that was shown on the error writer.
-fn tell_part<E: Sink>(excerpt: Excerpt, error_writer: &mut Counted<E>)
-    ensures { Told (excerpt_line excerpt)
+/// Reports what was left out on the error writer.
+fn tell_part<E: Sink>(part: Part, error_writer: &mut Counted<E>)
+    ensures { Told (part_line part)
         (E.contents (inner_of error_writer.old)) (E.contents (inner_of error_writer.new))
         (failures_of error_writer.old) (failures_of error_writer.new) }
 {
-    write_error(excerpt_line(excerpt).as_str().as_bytes(), error_writer);
+    write_error(part_line(part).as_str().as_bytes(), error_writer);
 }
 
 /// Reports the part that was shown, the departure or the fault, if there is one, on the error writer.
@@ -93,7 +92,7 @@ pub fn tell<E: Sink>(outcome: &Result<Ending, LabFault>, error_writer: &mut Coun
         Ok(
             Ending::Complete | Ending::Found | Ending::Explained | Ending::Warned | Ending::Refused,
         ) => {}
-        Ok(Ending::InPart(excerpt)) => tell_part(*excerpt, error_writer),
+        Ok(Ending::InPart(part)) => tell_part(*part, error_writer),
         Ok(Ending::Departed(verdict)) => write_error(verdict.as_slice(), error_writer),
         Err(fault) => tell_fault(fault, error_writer),
     }

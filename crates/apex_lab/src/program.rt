@@ -28,7 +28,7 @@ fn ending_of(outcome: Result<Shown, ShowFault>) -> Result<Ending, LabFault>
 {
     match outcome {
         Ok(Shown::Complete) => Ok(Ending::Complete),
-        Ok(Shown::InPart(excerpt)) => Ok(Ending::InPart(excerpt)),
+        Ok(Shown::InPart(part)) => Ok(Ending::InPart(part)),
         Ok(Shown::Departed(verdict)) => Ok(Ending::Departed(verdict)),
         Err(fault) => Err(LabFault::from(fault)),
     }

@@ -7,6 +7,7 @@ ghost use Rattle.apex_lab.specs.Words.{given_said, request_said, shown_said};
 
 use crate::faults::LabFault;
 use crate::linting::{Lint, lint_asked};
+use crate::names::names_given;
 use crate::numbers::{pace_given, read_time};
 use crate::questions::{Search, search_asked};
 use crate::whys::Why;
@@ -16,7 +17,7 @@ use apex_console::CliFault;
 use apex_objects::Form;
 use apex_schedules::read_positive;
 use apex_views::{Picture, RunSource, Showing, View, read_items};
-use std::alloc::Global;
+use std::alloc::{AllocError, Global};
 
 /// What the program is asked to do.
 #[derive(Drop)]
@@ -74,17 +75,23 @@ fn read_source(alloc: Global, source: SourceWords<'_>) -> Result<RunSource, LabF
     }
 }
 
-/// How a run is shown. None if a bound is ill-formed.
-fn read_view(view: ViewWords<'_>) -> Option<View>
-    ensures { option_map view_said result ≡ view_in (shown_said view.entry) }
+/// How a run is shown. None if a bound or a name is ill-formed.
+fn read_view(alloc: Global, view: ViewWords<'_>) -> Result<Option<View>, AllocError>
+    ensures { IfOk result
+        (λ found. option_map view_said found ≡ view_in (shown_said view.entry)) }
 {
     match view {
-        ViewWords::Svg { first, last } => {
-            let window = window_given(first, last)?;
-            Some(View::Picture(Picture::Svg(window)))
+        ViewWords::Svg { first, last, only } => {
+            let Some(window) = window_given(first, last) else {
+                return Ok(None);
+            };
+            let Some(names) = names_given(alloc, only)? else {
+                return Ok(None);
+            };
+            Ok(Some(View::Picture(Picture::Svg(window, names))))
         }
-        ViewWords::Trace => Some(View::Picture(Picture::Trace)),
-        ViewWords::Listing(listing) => Some(View::Listing(listing)),
+        ViewWords::Trace => Ok(Some(View::Picture(Picture::Trace))),
+        ViewWords::Listing(listing) => Ok(Some(View::Listing(listing))),
     }
 }
 
@@ -100,7 +107,7 @@ fn read_showing(
     ensures err { IfErr result (IsUnasked (showing_of (source_in (given_said source.entry))
         (view_in (shown_said view.entry)))) }
 {
-    let Some(view) = read_view(view) else {
+    let Some(view) = read_view(alloc, view)? else {
         return Err(LabFault::Common(CliFault::Usage));
     };
     let source = read_source(alloc, source)?;

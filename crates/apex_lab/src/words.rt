@@ -32,10 +32,12 @@ pub enum SourceWords<'a> {
 /// How a run is shown, by the words.
 #[derive(Clone, Copy)]
 pub enum ViewWords<'a> {
-    /// As SVG, with the texts of the first bound and of the last one, if they are given.
+    /// As SVG, with the texts of the first bound, of the last one, and of the names of processes, if
+    /// they are given.
     Svg {
         first: Option<&'a str>,
         last: Option<&'a str>,
+        only: Option<&'a str>,
     },
     /// As a trace.
     Trace,
@@ -106,7 +108,8 @@ fn svg_command<'a>(alloc: Global) -> Result<Command<'a>, AllocError>
     ensures local { IfOk result (λ c. (fields_of c).has_globals ≡ false) }
 {
     let with_from = view_command(alloc, "svg")?.arg(option(alloc, "from"))?;
-    with_from.arg(option(alloc, "to"))
+    let with_to = with_from.arg(option(alloc, "to"))?;
+    with_to.arg(option(alloc, "only"))
 }
 
 /// The command of this name, with `--json` too.
@@ -214,7 +217,7 @@ fn command<'a>(alloc: Global) -> Result<Command<'a>, AllocError>
 
 /// What the words ask for: `svg`, `trace`, `lines`, `status`, `report` or `schedule`, with
 /// `--schedule S`, with `--until T [--turns K] [--early E]`, or with neither; `svg` also with
-/// `[--from N] [--to M]`, and `lines`, `status` and `report` with `[--json]`; or `search` with
+/// `[--from N] [--to M] [--only NAME,..]`, and `lines`, `status` and `report` with `[--json]`; or `search` with
 /// `--for WORD [--process P] [--service WORD] [--turns K] [--early E] [--states N]`; or `lint` with
 /// `[--json] [--name FILE] [--allow WORD,WORD]`; or `step` with `[--json]`;
 /// or `check` with `[--json] [--comments]`; or `why` with `--entry N` and a run as for `lines`; or
@@ -280,6 +283,7 @@ fn svg_given<'a>(matches: &ArgMatches<'a>) -> ViewWords<'a>
     ViewWords::Svg {
         first: matches.get_str("from"),
         last: matches.get_str("to"),
+        only: matches.get_str("only"),
     }
 }
 

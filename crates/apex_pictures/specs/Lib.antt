@@ -1,4 +1,5 @@
 pub mod Excerpts
+pub mod Selections
 pub mod Terms
 pub mod Texts
 pub mod Places

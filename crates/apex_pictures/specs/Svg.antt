@@ -12,11 +12,13 @@ use Rattle.apex_machine.specs.declared.holdings.Holding.{Holding}
 use Rattle.apex_types.specs.declared.entries.Notice.TheVariants.{Woken, Released, Missed}
 use Rattle.apex_types.specs.declared.entries.Reply.TheVariants.{Advanced}
 use Rattle.apex_pictures.specs.Moments.{Shown, no_cell}
+use Rattle.apex_pictures.specs.Selections.{selection_of}
 use Rattle.apex_pictures.specs.Terms.{Caller, Cell, Entry, Notice, Reply, Wait}
 use Rattle.apex_pictures.specs.Texts.{xml_text}
 use Rattle.apex_pictures.specs.declared.excerpts.Excerpt.{Excerpt}
 use Rattle.apex_pictures.specs.declared.frames.Frame.{Frame}
 use Rattle.apex_pictures.specs.declared.marks.Mark.{Mark}
+use Rattle.apex_pictures.specs.declared.selections.Selection.{Selection}
 
 -- texts one behind the other
 abbrev pub texts : List (List ℕ) → List ℕ
@@ -29,6 +31,10 @@ row_of frame p = slice_index_or frame.rows.items p 0
 -- the place of the heading of a core
 abbrev pub heading_of : Frame → ℕ → ℕ
 heading_of frame core = slice_index_or frame.headings.items core 0
+
+-- a process has a row
+abbrev pub has_row : Frame → ℕ → Bool
+has_row frame p = slice_index_or frame.shown.items p false
 
 -- the entry of this number is drawn
 abbrev pub shows : Frame → ℕ → Bool
@@ -52,6 +58,10 @@ unfoldable pub label_text : Table → Frame → ℕ → List ℕ
 label_text table frame p = texts (
     codes "<text x='20' y='" ∷ decimal (row_of frame p + 13) ∷ codes "'>"
     ∷ id_text p ∷ codes " " ∷ xml_text (process_name table p) ∷ codes "</text>\n" ∷ [])
+
+-- the label of a process's row, if it has one
+abbrev pub label_at : Table → Frame → ℕ → List ℕ
+label_at table frame p = if has_row frame p then label_text table frame p else []
 
 -- time goes on with a reply
 abbrev pub goes_on : Reply → Bool
@@ -152,9 +162,10 @@ abbrev pub cell_text : Table → Frame → ℕ → Cell → List ℕ
 cell_text table frame p cell =
     cell_part table frame p cell ++ waits_part cell.wait ++ cell_end ++ owns_part frame p cell.owned
 
--- the cell of process p of a moment
+-- the cell of process p of a moment, if it has a row
 abbrev pub cell_at : Table → Frame → Shown → ℕ → List ℕ
-cell_at table frame shown p = cell_text table frame p (slice_index_or shown.cells p no_cell)
+cell_at table frame shown p =
+    if has_row frame p then cell_text table frame p (slice_index_or shown.cells p no_cell) else []
 
 -- a ring in the row of a process
 unfoldable pub circle_text : Frame → List ℕ → ℕ → List ℕ
@@ -163,9 +174,9 @@ circle_text frame line p = texts (
     ∷ decimal (row_of frame p + 8) ∷ codes "' r='4'><title>" ∷ xml_text line
     ∷ codes "</title></circle>\n" ∷ [])
 
--- the ring in the row of the caller, if a process calls
+-- the ring in the row of the caller, if a process calls that has a row
 abbrev pub ring_in : Frame → List ℕ → Caller → List ℕ
-ring_in frame line (Process p) = circle_text frame line p
+ring_in frame line (Process p) = if has_row frame p then circle_text frame line p else []
 ring_in frame line Init = []
 ring_in frame line Nobody = []
 
@@ -192,9 +203,10 @@ dash_text frame caller notice = texts (
     ∷ decimal (row_of frame caller + 8) ∷ codes "' y2='"
     ∷ decimal (row_of frame (notice_process notice) + 4) ∷ codes "'/>\n" ∷ [])
 
--- the line from the ring of the caller, if a process calls, to the wedge of a notice
+-- the line from the ring of the caller, if a process calls, to the wedge of a notice, if both have rows
 abbrev pub dash_to : Frame → Caller → Notice → List ℕ
-dash_to frame (Process p) notice = dash_text frame p notice
+dash_to frame (Process p) notice =
+    if has_row frame p && has_row frame (notice_process notice) then dash_text frame p notice else []
 dash_to frame Init notice = []
 dash_to frame Nobody notice = []
 
@@ -208,6 +220,11 @@ wedge_text frame notice = texts (
     ∷ notice_word notice ∷ codes " " ∷ id_text (notice_process notice) ∷ codes "</title></path>\n"
     ∷ [])
 
+-- the wedge of a notice, if its process has a row
+abbrev pub wedge_at : Frame → Notice → List ℕ
+wedge_at frame notice =
+    if has_row frame (notice_process notice) then wedge_text frame notice else []
+
 -- the marks of a column: the instant, the call, a cell for each process, the lines from the caller's ring
 -- to the wedges, the ring, and the wedges of the notices
 abbrev pub marks_text : Table → Frame → Entry → Shown → List ℕ
@@ -215,7 +232,7 @@ marks_text table frame entry shown =
     time_text frame entry ++ call_text table frame entry
     ++ texts_of (cell_at table frame shown) (length table.processes)
     ++ flat_map (dash_to frame entry.process) entry.notices
-    ++ ring_text table frame entry ++ flat_map (wedge_text frame) entry.notices
+    ++ ring_text table frame entry ++ flat_map (wedge_at frame) entry.notices
 
 -- the head of the column of the entry of this number
 unfoldable pub start_text : Frame → ℕ → List ℕ
@@ -275,11 +292,23 @@ abbrev pub note_text : Option Excerpt → List ℕ
 note_text None = []
 note_text (Some excerpt) = excerpt_text excerpt
 
+-- how many processes have a row
+unfoldable pub selection_text : Selection → List ℕ
+selection_text selection = texts (
+    codes "<text x='700' y='21'>" ∷ decimal selection.shown ∷ codes " of "
+    ∷ decimal selection.all ∷ codes " processes</text>" ∷ [])
+
+-- the note of how many processes have a row, if not all have one
+abbrev pub selection_part : Option Selection → List ℕ
+selection_part None = []
+selection_part (Some selection) = selection_text selection
+
 -- what comes after the columns: the mark of a departure, and the group of the labels, which a script
 -- keeps in sight. It has a heading for each core, a label for each process, and the key, with the note
 -- behind it.
 abbrev pub foot_text : Table → Frame → List ℕ
 foot_text table frame =
     mark_part frame frame.mark ++ white_text frame ++ texts_of (heading_text frame) table.cores
-    ++ texts_of (label_text table frame) (length table.processes)
-    ++ key_text frame ++ note_text frame.excerpt ++ frame.end.now
+    ++ texts_of (label_at table frame) (length table.processes)
+    ++ key_text frame ++ note_text frame.excerpt
+    ++ selection_part (selection_of frame.shown.items) ++ frame.end.now

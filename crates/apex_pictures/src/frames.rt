@@ -1,13 +1,15 @@
 //! The places of the columns and of the rows of a picture.
-ghost use Rattle.std.specs.Prelude.{◌≡◌, ◌<◌, ◌≤◌, ◌^◌, length, None, Some};
+ghost use Rattle.std.specs.Prelude.{◌≡◌, ◌<◌, ◌≤◌, ◌^◌, length, option_map, None, Some};
 ghost use Rattle.apex_types.specs.declared.limits.TheConstants.{MOST_CORES, MOST_PROCESSES};
 ghost use Rattle.arrayvec.specs.ArrayVec.{array_vec_len};
 ghost use Rattle.apex_pictures.specs.Excerpts.{excerpt_of, last_drawn};
-ghost use Rattle.apex_pictures.specs.Svg.{behind, heading_of, row_of, shows};
+ghost use Rattle.apex_pictures.specs.Selections.{rows_chosen, selection_of};
+ghost use Rattle.apex_pictures.specs.Svg.{behind, has_row, heading_of, row_of, shows};
 
 use crate::excerpts::{Excerpt, excerpt_of, last_drawn};
 use crate::marks::Mark;
 use crate::moments::CORES;
+use crate::selections::{Selection, rows_chosen, selection_of};
 use crate::svg::bare_line;
 use crate::words::name_of;
 use apex_dispatch::Kernel;
@@ -30,6 +32,9 @@ const RISE: u32 = 6;
 
 const ADVANCE: u32 = 4;
 
+/// The core of a process without a row, above all others.
+const NO_CORE: u8 = u8::MAX;
+
 /// The look of the marks, and the white behind them.
 const STYLE: &str =
     "<style>text{fill:#222}.core{font-weight:bold;fill:#555}.now{fill:#333}.number{fill:#888;font-size:8px;text-anchor:middle}.time{stroke:#999}.RUNNING{fill:#2f7d32}.READY{fill:#8fce92}.WAITING{fill:#dfe3e6}.DORMANT{fill:#fff;stroke:#eee}.owns{fill:#c62828}.ring{fill:#fff;stroke:#111;stroke-width:1.5}path{stroke:#fff}line{stroke-width:1.5;stroke-dasharray:3,2}line.time{stroke-width:1;stroke-dasharray:none}.woken{fill:#1e88e5}line.woken{stroke:#1e88e5}.released{fill:#8e24aa}line.released{stroke:#8e24aa}.missed{fill:#e53935}line.missed{stroke:#e53935}.departs{fill:#c62828}line.departs{stroke:#c62828;stroke-width:2;stroke-dasharray:none}</style>\n<rect width='100%' height='100%' fill='#fff'/>\n";
@@ -51,6 +56,8 @@ pub struct Frame {
     pub last: u32,
     /// What is drawn, if more was asked for.
     pub excerpt: Option<Excerpt>,
+    /// Whether each process has a row.
+    pub shown: ArrayVec<bool, MOST_PROCESSES>,
     /// The mark of a departure, which is drawn behind the last column, if there is one.
     pub mark: Option<Mark>,
     pub(crate) width: u32,
@@ -96,13 +103,18 @@ fn core_of(table: &Table, process: ProcessId) -> u8 {
     core
 }
 
-/// The cores to which the init list binds the processes.
-fn cores_of(table: &Table) -> ArrayVec<u8, MOST_PROCESSES>
+/// The cores to which the init list binds the processes that have a row; [`NO_CORE`] for the others.
+fn cores_of(table: &Table, shown: &[bool]) -> ArrayVec<u8, MOST_PROCESSES>
     ensures { array_vec_len result ≤ MOST_PROCESSES }
 {
     let mut cores = ArrayVec::new();
     for place in 0..table.process_count() {
-        cores.push(core_of(table, ProcessId::at(place as u8)));
+        let has_row = shown.get(place).copied().unwrap_or(false);
+        cores.push(if has_row {
+            core_of(table, ProcessId::at(place as u8))
+        } else {
+            NO_CORE
+        });
     }
     cores
 }
@@ -194,14 +206,21 @@ fn instant_letters(now: u64) -> u32
 
 impl Frame {
     /// The frame for the entries of a kernel's history with these numbers, [`MOST_COLUMNS`] at the
-    /// most.
+    /// most, with rows for these processes, or for all.
     ///
     /// [`MOST_COLUMNS`]: crate::MOST_COLUMNS
-    pub fn new<S: Store>(kernel: &Kernel<S>, first: u32, last: u32) -> Frame
+    pub fn new<S: Store>(
+        kernel: &Kernel<S>,
+        first: u32,
+        last: u32,
+        only: Option<&[ProcessId]>,
+    ) -> Frame
         ensures first { result.first ≡ first }
         ensures last { result.last ≡ last_drawn first last }
         ensures excerpt { result.excerpt
             ≡ excerpt_of first last (length kernel.now.machine.history) }
+        ensures shown { result.shown.items
+            ≡ rows_chosen kernel.now.table (option_map (λ list. list.now) only.entry) }
         ensures unmarked { result.mark ≡ None }
     {
         let table = kernel.table();
@@ -213,13 +232,15 @@ impl Frame {
         let longest = longest_call(kernel, first.saturating_sub(1) as usize, end);
         let top = 20 + RISE * longest;
         let left = 50 + LETTER * longest_name(table);
-        let cores = cores_of(table);
-        let rows = table.process_count() as u32 + u32::from(table.cores());
+        let shown = rows_chosen(table, only);
+        let cores = cores_of(table, shown.as_slice());
+        let rows = count_below(cores.as_slice(), NO_CORE) + u32::from(table.cores());
         let bottom = top + STEP * rows + 6;
         Frame {
             first,
             last,
             excerpt,
+            shown,
             mark: None,
             width: (left + STEP * columns + ADVANCE * longest + 30).max(700),
             top,
@@ -248,6 +269,23 @@ impl Frame {
         self.width = self.width.max(width);
         self.mark = Some(mark);
         self
+    }
+
+    /// Whether a process has a row.
+    pub(crate) fn has_row(&self, process: ProcessId) -> bool
+        ensures { result ≡ has_row self.now process }
+    {
+        match self.shown.as_slice().get(process.place()) {
+            Some(shown) => *shown,
+            None => false,
+        }
+    }
+
+    /// How many processes have a row, if not all have one.
+    pub fn selection(&self) -> Option<Selection>
+        ensures { result ≡ selection_of self.now.shown.items }
+    {
+        selection_of(self.shown.as_slice())
     }
 
     /// The place behind the last column.

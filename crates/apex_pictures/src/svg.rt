@@ -2,12 +2,14 @@
 ghost use Rattle.std.specs.Prelude.{◌≡◌, ◌≤◌, ◌++◌, drop, flat_map, length, OnOk};
 ghost use Rattle.apex_calls.specs.Lines.{IsPrintable, line_of};
 ghost use Rattle.apex_machine.specs.text.Listing.{texts_of};
-ghost use Rattle.apex_pictures.specs.Svg.{bare, bar_text, call_end, call_text, cell_at, cell_end, cell_part, cell_text, circle_text, column_end, column_text, dash_text, dash_to, excerpt_text, foot_text, heading_text, head_text, instant_text, is_timed, key_text, label_text, mark_part, mark_text, marks_text, mutex_text, note_text, notice_process, owns_part, ring_text, said_text, start_text, time_text, title_text, waits_part, wedge_text, white_text};
+ghost use Rattle.apex_pictures.specs.Svg.{bare, bar_text, call_end, call_text, cell_at, cell_end, cell_part, cell_text, circle_text, column_end, column_text, dash_text, dash_to, excerpt_text, foot_text, heading_text, head_text, instant_text, is_timed, key_text, label_at, label_text, mark_part, mark_text, marks_text, mutex_text, note_text, notice_process, owns_part, ring_text, said_text, selection_part, selection_text, start_text, time_text, title_text, waits_part, wedge_at, wedge_text, white_text};
+ghost use Rattle.apex_pictures.specs.Selections.{selection_of};
 
 use crate::excerpts::Excerpt;
 use crate::frames::Frame;
 use crate::marks::Mark;
 use crate::moments::{Cell, Moment};
+use crate::selections::Selection;
 use crate::texts::{Part, put, put_all, put_xml};
 use crate::words::{id_part, name_of, notice_word, put_object, put_wait, state_word};
 use apex_history::{Lines, NextSteps, put_line};
@@ -56,6 +58,23 @@ fn put_label(
     )
 }
 
+/// Puts the label of a process's row, if it has one.
+fn put_label_at(
+    text: &mut Vec<u8>,
+    table: &Table,
+    frame: &Frame,
+    process: ProcessId,
+) -> Result<(), AllocError>
+    ensures { OnOk result (text.new.items ≡ text.old.items
+        ++ label_at table.now frame.now process) }
+{
+    if frame.has_row(process) {
+        put_label(text, table, frame, process)
+    } else {
+        Ok(())
+    }
+}
+
 /// Puts what comes before the columns.
 pub(crate) fn put_head(text: &mut Vec<u8>, frame: &Frame) -> Result<(), AllocError>
     ensures { OnOk result (text.new.items ≡ text.old.items ++ head_text frame.now) }
@@ -85,10 +104,10 @@ fn put_headings(text: &mut Vec<u8>, table: &Table, frame: &Frame) -> Result<(), 
 
 fn put_labels(text: &mut Vec<u8>, table: &Table, frame: &Frame) -> Result<(), AllocError>
     ensures { OnOk result (text.new.items ≡ text.old.items
-        ++ texts_of (label_text table.now frame.now) (length table.now.processes)) }
+        ++ texts_of (label_at table.now frame.now) (length table.now.processes)) }
 {
     for place in 0..table.process_count() {
-        put_label(text, table, frame, ProcessId::at(place as u8))?;
+        put_label_at(text, table, frame, ProcessId::at(place as u8))?;
     }
     Ok(())
 }
@@ -338,7 +357,25 @@ fn put_cell(
     put_owns(text, frame, process, cell.owned.as_slice())
 }
 
-/// Puts the cells of all processes.
+/// Puts the cell of a process of a moment, if it has a row.
+fn put_cell_at(
+    text: &mut Vec<u8>,
+    table: &Table,
+    frame: &Frame,
+    process: ProcessId,
+    moment: &Moment,
+) -> Result<(), AllocError>
+    ensures { OnOk result (text.new.items ≡ text.old.items
+        ++ cell_at table.now frame.now moment.now process) }
+{
+    if frame.has_row(process) {
+        put_cell(text, table, frame, process, &moment.cell(process))
+    } else {
+        Ok(())
+    }
+}
+
+/// Puts the cells of all processes that have a row.
 fn put_cells(
     text: &mut Vec<u8>,
     table: &Table,
@@ -349,8 +386,7 @@ fn put_cells(
         ++ texts_of (cell_at table.now frame.now moment.now) (length table.now.processes)) }
 {
     for place in 0..table.process_count() {
-        let process = ProcessId::at(place as u8);
-        put_cell(text, table, frame, process, &moment.cell(process))?;
+        put_cell_at(text, table, frame, ProcessId::at(place as u8), moment)?;
     }
     Ok(())
 }
@@ -392,8 +428,10 @@ fn put_ring(
 {
     let line = line_of(table, entry);
     match entry.process {
-        Caller::Process(caller) => put_circle(text, frame, caller, line.as_slice()),
-        Caller::Init | Caller::Nobody => Ok(()),
+        Caller::Process(caller) if frame.has_row(caller) => {
+            put_circle(text, frame, caller, line.as_slice())
+        }
+        Caller::Process(_) | Caller::Init | Caller::Nobody => Ok(()),
     }
 }
 
@@ -441,9 +479,12 @@ fn put_dash_to(
     ensures { OnOk result (text.new.items ≡ text.old.items
         ++ dash_to frame.now caller.now notice.now) }
 {
+    let process = notice_process(notice);
     match caller {
-        Caller::Process(caller) => put_dash(text, frame, *caller, notice),
-        Caller::Init | Caller::Nobody => Ok(()),
+        Caller::Process(caller) if frame.has_row(*caller) && frame.has_row(process) => {
+            put_dash(text, frame, *caller, notice)
+        }
+        Caller::Process(_) | Caller::Init | Caller::Nobody => Ok(()),
     }
 }
 
@@ -470,6 +511,17 @@ fn put_wedge(text: &mut Vec<u8>, frame: &Frame, notice: &Notice) -> Result<(), A
     )
 }
 
+/// Puts the wedge of a notice, if its process has a row.
+fn put_wedge_at(text: &mut Vec<u8>, frame: &Frame, notice: &Notice) -> Result<(), AllocError>
+    ensures { OnOk result (text.new.items ≡ text.old.items ++ wedge_at frame.now notice.now) }
+{
+    if frame.has_row(notice_process(notice)) {
+        put_wedge(text, frame, notice)
+    } else {
+        Ok(())
+    }
+}
+
 /// Puts the lines from the caller's ring to the wedges of the notices.
 fn put_dashes(text: &mut Vec<u8>, frame: &Frame, entry: &LentEntry<'_>) -> Result<(), AllocError>
     ensures { OnOk result (text.new.items ≡ text.old.items
@@ -484,10 +536,10 @@ fn put_dashes(text: &mut Vec<u8>, frame: &Frame, entry: &LentEntry<'_>) -> Resul
 /// Puts the wedges of the notices.
 fn put_wedges(text: &mut Vec<u8>, frame: &Frame, entry: &LentEntry<'_>) -> Result<(), AllocError>
     ensures { OnOk result (text.new.items ≡ text.old.items
-        ++ flat_map (wedge_text frame.now) entry.entry.now.notices) }
+        ++ flat_map (wedge_at frame.now) entry.entry.now.notices) }
 {
     for notice in entry.notices {
-        put_wedge(text, frame, notice)?;
+        put_wedge_at(text, frame, notice)?;
     }
     Ok(())
 }
@@ -648,6 +700,33 @@ fn put_note(text: &mut Vec<u8>, excerpt: &Option<Excerpt>) -> Result<(), AllocEr
     }
 }
 
+/// Puts how many processes have a row.
+fn put_selection(text: &mut Vec<u8>, selection: Selection) -> Result<(), AllocError>
+    ensures { OnOk result (text.new.items ≡ text.old.items ++ selection_text selection) }
+{
+    put_all(
+        text,
+        &[
+            Part::Plain("<text x='700' y='21'>"),
+            Part::Number(selection.shown as u64),
+            Part::Plain(" of "),
+            Part::Number(selection.all as u64),
+            Part::Plain(" processes</text>"),
+        ],
+    )
+}
+
+/// Puts the note of how many processes have a row, if not all have one.
+fn put_selection_part(text: &mut Vec<u8>, frame: &Frame) -> Result<(), AllocError>
+    ensures { OnOk result (text.new.items ≡ text.old.items
+        ++ selection_part (selection_of frame.now.shown.items)) }
+{
+    match frame.selection() {
+        Some(selection) => put_selection(text, selection),
+        None => Ok(()),
+    }
+}
+
 /// Puts what comes after the columns: the mark of a departure, the headings of the cores, the labels of
 /// the rows, and the key, with the note behind it.
 #[tactic(auto, using(std::proofs::Common::append_assoc))]
@@ -660,5 +739,6 @@ pub(crate) fn put_foot(text: &mut Vec<u8>, table: &Table, frame: &Frame) -> Resu
     put_labels(text, table, frame)?;
     put_key(text, frame)?;
     put_note(text, &frame.excerpt)?;
+    put_selection_part(text, frame)?;
     put(text, frame.end)
 }

@@ -8,12 +8,14 @@ use Rattle.apex_schedules.specs.declared.ScheduleFault.{ScheduleFault}
 use Rattle.apex_schedules.specs.declared.ScheduleFault.TheVariants as schedules
 use Rattle.apex_types.specs.declared.limits.TheConstants.{MOST_ENTRIES}
 use Rattle.apex_pictures.specs.declared.Excerpt.{Excerpt}
+use Rattle.apex_pictures.specs.declared.Selection.{Selection}
+use Rattle.apex_views.specs.declared.plans.Part.{Part}
 use Rattle.apex_views.specs.Windows.{has_time}
 use Rattle.apex_views.specs.declared.faults.BadSchedule.{BadSchedule}
 use Rattle.apex_views.specs.declared.faults.Reason.{Reason}
 use Rattle.apex_views.specs.declared.faults.Reason.TheVariants.{IllFormed, TooMany}
 use Rattle.apex_views.specs.declared.faults.ShowFault.{ShowFault}
-use Rattle.apex_views.specs.declared.faults.ShowFault.TheVariants.{Common, Empty, Schedule}
+use Rattle.apex_views.specs.declared.faults.ShowFault.TheVariants.{Common, Empty, NoProcess, Schedule}
 use Rattle.apex_views.specs.declared.windows.Bound.{Bound}
 use Rattle.apex_views.specs.declared.windows.Bound.TheVariants as bound
 use Rattle.apex_views.specs.declared.windows.EmptyWindow.{EmptyWindow}
@@ -36,6 +38,7 @@ abbrev pub IsFaultIn : List ℕ → ShowFault → Type 0
 IsFaultIn text (Common fault) = fault ≡ Memory
 IsFaultIn text (Schedule bad) = IsBadIn text bad
 IsFaultIn text (Empty window) = ⊥
+IsFaultIn text (NoProcess name) = ⊥
 
 abbrev pub too_many_text : List ℕ
 too_many_text = codes "more than " ++ decimal MOST_ENTRIES ++ codes " items"
@@ -82,7 +85,23 @@ window_line empty =
     ++ codes " to " ++ bound_text empty.window.last ++ codes ", it has "
     ++ entries_text empty.entries ++ end_part empty ++ codes "\n"
 
--- the line that reports what a picture shows, of which more was asked for
+-- the line that reports the entries that a picture shows, if more were asked for
+abbrev pub excerpt_part : Option Excerpt → List ℕ
+excerpt_part None = []
+excerpt_part (Some excerpt) = excerpt_line excerpt
+
+-- the line that reports how many processes have a row, if not all have one
+abbrev pub selection_part : Option Selection → List ℕ
+selection_part None = []
+selection_part (Some selection) =
+    codes "apex_lab: " ++ decimal selection.shown ++ codes " of " ++ decimal selection.all
+    ++ codes " processes\n"
+
+-- the lines that report what a picture leaves out
+abbrev pub part_line : Part → List ℕ
+part_line part = excerpt_part part.excerpt ++ selection_part part.selection
+
+-- the line of the entries that a picture shows
 abbrev pub excerpt_line : Excerpt → List ℕ
 excerpt_line excerpt =
     codes "apex_lab: entries " ++ decimal excerpt.first ++ codes " to " ++ decimal excerpt.last

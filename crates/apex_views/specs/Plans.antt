@@ -54,22 +54,28 @@ pub record IsListOf (limit : ℕ) (all events : List Event) (is_cut : Bool) : Ty
   pub cut : is_cut ≡ true → (length events ≡ limit) × (0 < length rest)
 
 -- A frame is for a span of a history: it shows the entries of the span, `MOST_COLUMNS` of them at the
--- most, and says so if these are not all. It marks the departure behind the history, if there is one
+-- most, and says so if these are not all. It has rows for these processes, or for all. It marks the departure behind the history, if there is one
 -- and the last entry is drawn.
-pub record IsFrameFor (span : Span) (history : List Entry) (departure : Option Departure)
-    (frame : Frame) : Type 0 where
+pub record IsFrameFor (span : Span) (table : tables.Table) (only : Option (List ℕ))
+    (history : List Entry) (departure : Option Departure) (frame : Frame) : Type 0 where
   pub first : frame.first ≡ span.first
   pub last : frame.last ≡ last_drawn span.first span.last
   pub excerpt : frame.excerpt ≡ excerpt_of span.first span.last (length history)
+  pub rows : frame.shown.items ≡ rows_chosen table only
   pub mark : Marks (departure_behind frame.last (length history) departure) frame.mark
 
 -- a frame is for a window of a history: it shows the entries from the first one of the window to the
 -- last
-pub record IsFrameOf (window : Window) (history : List Entry) (departure : Option Departure)
-    (frame : Frame) : Type 0 where
+pub record IsFrameOf (window : Window) (table : tables.Table) (only : Option (List ℕ))
+    (history : List Entry) (departure : Option Departure) (frame : Frame) : Type 0 where
   pub span : Span
   pub is : span_in window history ≡ Some span
-  pub shows : IsFrameFor span history departure frame
+  pub shows : IsFrameFor span table only history departure frame
+
+-- the table lacks none of the processes of these rows
+abbrev pub HasRows : Rows → Type 0
+HasRows (lacking name) = ⊥
+HasRows rows = Unit {0}
 
 -- a style is that of a picture of a history, behind which there may be a departure
 abbrev pub IsStyleOf : Picture → List Entry → Option Departure → Style → Type 0

@@ -1,5 +1,5 @@
 -- How a run is given, and how it is shown.
-use Rattle.std.specs.Prelude.{ℕ, List}
+use Rattle.std.specs.Prelude.{ℕ, List, Option, option_map}
 use Rattle.apex_pace.specs.declared.paces.Pace.{Pace}
 use Rattle.apex_schedules.specs.declared.Item.{Item}
 use Rattle.apex_views.specs.declared.showings.Listing.{Listing}
@@ -25,8 +25,9 @@ pub data Source : Type 0 where
 
 -- how a picture shows a run
 pub data Picture : Type 0 where
-  -- as SVG, the entries of a window
-  svg : Window → Picture
+  -- as SVG, the entries of a window, with rows for the processes of these names or numbers, or for
+  -- all
+  svg : Window → Option (List (List ℕ)) → Picture
   -- as a trace
   trace : Picture
 
@@ -55,7 +56,7 @@ source_said run.History = history
 
 -- how a picture shows a run, of a value of the program
 abbrev pub picture_said : PictureIn → Picture
-picture_said (pictures.Svg window) = svg window
+picture_said (pictures.Svg window names) = svg window (option_map (λ all. all.items) names)
 picture_said pictures.Trace = trace
 
 -- how a run is shown, of a value of the program

@@ -4,17 +4,18 @@ ghost use Rattle.arrayvec.specs.ArrayString.{array_string_len};
 ghost use Rattle.apex_console.specs.Faults.{fault_in, fault_of_read};
 ghost use Rattle.apex_console.specs.declared.CliFault.TheVariants.{Memory};
 ghost use Rattle.apex_schedules.specs.Readings.{AreItemsOf, IsFaultOf};
-ghost use Rattle.apex_views.specs.Faults.{IsBadIn, IsFaultIn, bound_text, end_part, entries_text, excerpt_line, fault_at, line_part, reason_text, schedule_line, time_text, too_many_text, window_line};
+ghost use Rattle.apex_views.specs.Faults.{IsBadIn, IsFaultIn, bound_text, end_part, entries_text, excerpt_part, part_line, selection_part, fault_at, line_part, reason_text, schedule_line, time_text, too_many_text, window_line};
 ghost use Rattle.apex_views.specs.Shows.{first_fault};
 ghost use Rattle.apex_views.specs.declared.faults.ShowFault.TheVariants.{Common};
 ghost use Rattle.apex_views.specs.declared.faults.TheConstants.{LINE_ROOM};
 
+use crate::plans::Part;
 use crate::windows::{Bound, EmptyWindow};
 use apex_console::CliFault;
 use apex_history::ReadFault;
-use apex_pictures::Excerpt;
+use apex_pictures::{Excerpt, Selection};
 use apex_schedules::{Item, Place, ScheduleFault, read_grouped};
-use apex_types::MOST_ENTRIES;
+use apex_types::{MOST_ENTRIES, Name};
 use arrayvec::ArrayString;
 use itoa::Buffer;
 use std::alloc::{AllocError, Global};
@@ -56,6 +57,8 @@ pub enum ShowFault {
     Schedule(BadSchedule),
     /// The run has no entry in the window of a picture.
     Empty(EmptyWindow),
+    /// A process of this name or number is to have a row, and the table lacks it.
+    NoProcess(Name),
 }
 
 impl From<CliFault> for ShowFault {
@@ -263,18 +266,46 @@ pub fn window_line(empty: EmptyWindow) -> Line
     line
 }
 
-/// The line that reports what a picture shows, of which more was asked for, with its line feed.
+/// Puts the line that reports the entries that a picture shows, if more were asked for.
 #[tactic(auto, using(std::proofs::Common::append_assoc))]
-pub fn excerpt_line(excerpt: Excerpt) -> Line
-    ensures { result.bytes ≡ excerpt_line excerpt }
+fn put_excerpt(line: &mut Line, excerpt: Option<Excerpt>)
+    requires { array_string_len line.old ≤ 0 }
+    ensures text { line.new.bytes ≡ line.old.bytes ++ excerpt_part excerpt }
+    ensures short { array_string_len line.new ≤ array_string_len line.old + 87 }
+{
+    if let Some(excerpt) = excerpt {
+        line.push_str("apex_lab: entries ");
+        put_number(line, excerpt.first as usize);
+        line.push_str(" to ");
+        put_number(line, excerpt.last as usize);
+        line.push_str(" of ");
+        put_number(line, excerpt.entries);
+        line.push_str("\n");
+    }
+}
+
+/// Puts the line that reports how many processes have a row, if not all have one.
+#[tactic(auto, using(std::proofs::Common::append_assoc))]
+fn put_selection(line: &mut Line, selection: Option<Selection>)
+    requires { array_string_len line.old + 65 ≤ LINE_ROOM }
+    ensures text { line.new.bytes ≡ line.old.bytes ++ selection_part selection }
+{
+    if let Some(selection) = selection {
+        line.push_str("apex_lab: ");
+        put_number(line, selection.shown);
+        line.push_str(" of ");
+        put_number(line, selection.all);
+        line.push_str(" processes\n");
+    }
+}
+
+/// The lines that report what a picture leaves out, with their line feeds.
+#[tactic(auto, using(std::proofs::Common::append_assoc))]
+pub fn part_line(part: Part) -> Line
+    ensures { result.bytes ≡ part_line part }
 {
     let mut line = Line::new();
-    line.push_str("apex_lab: entries ");
-    put_number(&mut line, excerpt.first as usize);
-    line.push_str(" to ");
-    put_number(&mut line, excerpt.last as usize);
-    line.push_str(" of ");
-    put_number(&mut line, excerpt.entries);
-    line.push_str("\n");
+    put_excerpt(&mut line, part.excerpt);
+    put_selection(&mut line, part.selection);
     line
 }

@@ -6,6 +6,7 @@ mod faults;
 mod listings;
 mod parts;
 mod plans;
+mod rows;
 mod runs;
 mod showing;
 mod showings;
@@ -14,8 +15,9 @@ mod windows;
 
 pub use departures::Departure;
 pub use faults::{
-    BadSchedule, Reason, ShowFault, excerpt_line, read_items, schedule_line, window_line,
+    BadSchedule, Reason, ShowFault, part_line, read_items, schedule_line, window_line,
 };
+pub use plans::Part;
 pub use showing::{Shown, show_run};
 pub use showings::{Listing, Picture, RunSource, Showing, View};
 pub use sources::{Given, GivenRun, given_by};

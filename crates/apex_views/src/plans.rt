@@ -9,7 +9,7 @@ ghost use Rattle.apex_console.specs.declared.CliFault.{CliFault as CliFaultOf};
 ghost use Rattle.apex_views.specs.Departures.{Departure as DepartureAt, departure_said};
 ghost use Rattle.apex_views.specs.Shows.{Shows, first_fault};
 ghost use Rattle.apex_pictures.specs.declared.Style.TheVariants.{Trace};
-ghost use Rattle.apex_views.specs.Plans.{IsFrameOf, IsListOf, IsRunOf, IsStyleOf, excerpt_with, fault_of_drawing, machine_of};
+ghost use Rattle.apex_views.specs.Plans.{IsFrameOf, IsListOf, IsRunOf, IsStyleOf, part_with, fault_of_drawing, machine_of};
 ghost use Rattle.apex_views.specs.Showings.{Picture as PictureAsked, drawn};
 ghost use Rattle.apex_views.specs.Windows.{span_in};
 
@@ -19,12 +19,12 @@ use crate::windows::Window;
 use apex_console::{CliFault, booted, repeated};
 use apex_dispatch::{Kernel, events_in};
 use apex_history::{Counted, Sink};
-use apex_pictures::{DrawFault, Excerpt, Frame, Style, draw};
+use apex_pictures::{DrawFault, Excerpt, Frame, Selection, Style, draw};
 use apex_process::QueueStore;
 use apex_schedules::Item;
 use apex_store::Store;
 use apex_table::Table;
-use apex_types::Event;
+use apex_types::{Event, ProcessId};
 use std::alloc::{AllocError, Global};
 
 /// A picture that is to be drawn: its style, and the events of which it is.
@@ -37,14 +37,29 @@ pub struct Plan {
     pub fault: Option<CliFault>,
 }
 
+/// What a picture leaves out of a run.
+#[derive(Clone, Copy)]
+pub struct Part {
+    /// The entries that it shows, if more were asked for.
+    pub excerpt: Option<Excerpt>,
+    /// How many processes have a row, if not all have one.
+    pub selection: Option<Selection>,
+}
+
 impl Plan {
-    /// What is drawn, if more was asked for.
-    pub fn part(&self) -> Option<Excerpt>
-        ensures { result ≡ excerpt_with self.now.style }
+    /// What the picture leaves out.
+    pub fn part(&self) -> Part
+        ensures { result ≡ part_with self.now.style }
     {
         match &self.style {
-            Style::Svg(frame) => frame.excerpt,
-            Style::Trace => None,
+            Style::Svg(frame) => Part {
+                excerpt: frame.excerpt,
+                selection: frame.selection(),
+            },
+            Style::Trace => Part {
+                excerpt: None,
+                selection: None,
+            },
         }
     }
 }
@@ -54,6 +69,7 @@ impl Plan {
 pub fn frame_for<S: Store>(
     alloc: Global,
     window: Window,
+    only: Option<&[ProcessId]>,
     departure: &Option<Departure>,
     kernel: &Kernel<S>,
 ) -> Result<Option<Frame>, AllocError>
@@ -64,7 +80,7 @@ pub fn frame_for<S: Store>(
     let Some(span) = window.span_in(kernel) else {
         return Ok(None);
     };
-    let frame = Frame::new(kernel, span.first, span.last);
+    let frame = Frame::new(kernel, span.first, span.last, only);
     let frame = marked(alloc, frame, departure, kernel.entries().len())?;
     Ok(Some(frame))
 }

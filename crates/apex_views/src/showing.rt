@@ -12,11 +12,10 @@ ghost use Rattle.apex_views.specs.Shows.{IsRunFor, ShowEnds, Shows, ShowsOutcome
 use crate::departures::Departure;
 use crate::faults::ShowFault;
 use crate::listings::list;
-use crate::plans::{Plan, draw_plan, show};
+use crate::plans::{Part, Plan, draw_plan, show};
 use crate::showings::Showing;
 use crate::sources::{Given, GivenRun, given_by};
 use apex_history::{Counted, Lines, Sink, Source};
-use apex_pictures::Excerpt;
 use std::alloc::Global;
 
 /// The end of a showing that meets no fault.
@@ -24,20 +23,21 @@ use std::alloc::Global;
 pub enum Shown {
     /// The run was shown.
     Complete,
-    /// This part of the run was shown, of which more was asked for.
-    InPart(Excerpt),
+    /// The run was shown without this.
+    InPart(Part),
     /// The history departs from what the partition does: the text of the verdict. A picture was drawn
     /// up to the departure.
     Departed(Lines),
 }
 
-/// The end of a showing of a part, or of all if there is none.
-fn shown_in(part: Option<Excerpt>) -> Shown
+/// The end of a showing that leaves this out, if anything.
+fn shown_in(part: Part) -> Shown
     ensures { end_in (Ok result) ≡ end_of_part part }
 {
-    match part {
-        Some(excerpt) => Shown::InPart(excerpt),
-        None => Shown::Complete,
+    if part.excerpt.is_none() && part.selection.is_none() {
+        Shown::Complete
+    } else {
+        Shown::InPart(part)
     }
 }
 
@@ -78,6 +78,7 @@ fn show_whole<W: Sink>(
             Ok(Shown::Complete)
         }
         GivenRun::Empty(window, run) => Err(ShowFault::Empty(window.empty_in(&run.kernel))),
+        GivenRun::Lacking(name, _) => Err(ShowFault::NoProcess(name)),
     }
 }
 
@@ -100,6 +101,7 @@ fn show_before<W: Sink>(
         }
         GivenRun::Listing(..) => Ok(Shown::Departed(departure.verdict)),
         GivenRun::Empty(..) => Ok(Shown::Departed(departure.verdict)),
+        GivenRun::Lacking(name, _) => Err(ShowFault::NoProcess(name)),
     }
 }
 

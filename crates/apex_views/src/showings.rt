@@ -3,6 +3,7 @@ use crate::windows::Window;
 use apex_objects::Form;
 use apex_pace::Pace;
 use apex_schedules::Item;
+use apex_types::Name;
 
 /// How a run is given.
 #[derive(Drop)]
@@ -18,10 +19,11 @@ pub enum RunSource {
 }
 
 /// How a picture shows a run.
-#[derive(Clone, Copy)]
+#[derive(Drop)]
 pub enum Picture {
-    /// As SVG, the entries of a window.
-    Svg(Window),
+    /// As SVG, the entries of a window, with rows for the processes of these names or numbers, or for
+    /// all.
+    Svg(Window, Option<Vec<Name>>),
     /// As a trace.
     Trace,
 }
@@ -40,7 +42,7 @@ pub enum Listing {
 }
 
 /// How a run is shown.
-#[derive(Clone, Copy)]
+#[derive(Drop)]
 pub enum View {
     /// By a picture, which a second run draws.
     Picture(Picture),

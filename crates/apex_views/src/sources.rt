@@ -16,6 +16,7 @@ use crate::departures::{Departure, kernel_before};
 use crate::faults::{ShowFault, read_items};
 use crate::parts::parted;
 use crate::plans::{Plan, frame_for, plan_in, trace_plan};
+use crate::rows::{Rows, rows_for};
 use crate::runs::run_at_pace;
 use crate::showings::{Listing, Picture, RunSource, Showing, View};
 use crate::windows::Window;
@@ -28,6 +29,7 @@ use apex_pace::Pace;
 use apex_pictures::Style;
 use apex_process::QueueStore;
 use apex_schedules::Item;
+use apex_types::Name;
 use std::alloc::{AllocError, Global};
 
 /// A run that a source gives, as it is to be shown.
@@ -39,6 +41,8 @@ pub enum GivenRun {
     Listing(Listing, Run),
     /// A run of which this window is to be drawn, and which has no entry in it.
     Empty(Window, Run),
+    /// A run in a picture of which this process is to have a row, which the table lacks.
+    Lacking(Name, Run),
 }
 
 /// What a source gives.
@@ -65,14 +69,22 @@ fn planned(alloc: Global, style: Style, run: Run) -> Result<GivenRun, AllocError
 fn svg_of(
     alloc: Global,
     window: Window,
+    names: &Option<Vec<Name>>,
     departure: &Option<Departure>,
     run: Run,
 ) -> Result<GivenRun, AllocError>
     ensures run { IfOk result (IsRunTo (runs_to run.kernel.table run.kernel.machine run.fault)) }
-    ensures view { IfOk result (IsRunFor (drawn (svg window))
+    ensures view { IfOk result (IsRunFor (drawn (svg window
+        (option_map (λ all. all.items) names.now)))
         (option_map departure_said departure.now)) }
 {
-    let found = frame_for(alloc, window, departure, &run.kernel)?;
+    let rows = rows_for(alloc, run.kernel.table(), names)?;
+    let only = match &rows {
+        Rows::All => None,
+        Rows::Of(processes) => Some(processes.as_slice()),
+        Rows::Lacking(name) => return Ok(GivenRun::Lacking(*name, run)),
+    };
+    let found = frame_for(alloc, window, only, departure, &run.kernel)?;
     match found {
         Some(frame) => planned(alloc, Style::Svg(frame), run),
         None => Ok(GivenRun::Empty(window, run)),
@@ -82,16 +94,16 @@ fn svg_of(
 /// A run of which a picture is to be drawn, with the departure behind it.
 fn pictured(
     alloc: Global,
-    picture: Picture,
+    picture: &Picture,
     departure: &Option<Departure>,
     run: Run,
 ) -> Result<GivenRun, AllocError>
     ensures run { IfOk result (IsRunTo (runs_to run.kernel.table run.kernel.machine run.fault)) }
-    ensures view { IfOk result (IsRunFor (drawn (picture_said picture))
+    ensures view { IfOk result (IsRunFor (drawn (picture_said picture.now))
         (option_map departure_said departure.now)) }
 {
     match picture {
-        Picture::Svg(window) => svg_of(alloc, window, departure, run),
+        Picture::Svg(window, names) => svg_of(alloc, *window, names, departure, run),
         Picture::Trace => planned(alloc, Style::Trace, run),
     }
 }
@@ -99,24 +111,24 @@ fn pictured(
 /// A run, to be shown in this view, with the departure behind it.
 fn run_in(
     alloc: Global,
-    view: View,
+    view: &View,
     departure: &Option<Departure>,
     run: Run,
 ) -> Result<GivenRun, AllocError>
     ensures run { IfOk result (IsRunTo (runs_to run.kernel.table run.kernel.machine run.fault)) }
-    ensures view { IfOk result (IsRunFor (view_said view)
+    ensures view { IfOk result (IsRunFor (view_said view.now)
         (option_map departure_said departure.now)) }
 {
     match view {
         View::Picture(picture) => pictured(alloc, picture, departure, run),
-        View::Listing(listing) => Ok(GivenRun::Listing(listing, run)),
+        View::Listing(listing) => Ok(GivenRun::Listing(*listing, run)),
     }
 }
 
 /// A run, to be shown in this view, behind which there is no departure.
-fn given_in(alloc: Global, view: View, run: Run) -> Result<Given, AllocError>
+fn given_in(alloc: Global, view: &View, run: Run) -> Result<Given, AllocError>
     ensures run { IfOk result (IsGivenTo (runs_to run.kernel.table run.kernel.machine run.fault)) }
-    ensures view { IfOk result (IsGivenFor (view_said view)) }
+    ensures view { IfOk result (IsGivenFor (view_said view.now)) }
 {
     let departure = None;
     let made = run_in(alloc, view, &departure, run)?;
@@ -127,9 +139,14 @@ fn given_in(alloc: Global, view: View, run: Run) -> Result<Given, AllocError>
 ///
 /// The errors in the order of the checks: the table's fault, `Usage` if an item is of a core that
 /// the table lacks; `Memory` whenever memory is refused.
-fn given_by_items(alloc: Global, view: View, items: &[Item], text: &[u8]) -> Result<Given, CliFault>
+fn given_by_items(
+    alloc: Global,
+    view: &View,
+    items: &[Item],
+    text: &[u8],
+) -> Result<Given, CliFault>
     ensures ok { IfOk result (IsGivenTo (answer_of items.now text.now)) }
-    ensures view { IfOk result (IsGivenFor (view_said view)) }
+    ensures view { IfOk result (IsGivenFor (view_said view.now)) }
     ensures err { IfErr result (λ fault. Refuses fault (answer_of items.now text.now)) }
 {
     if let View::Picture(Picture::Trace) = view {
@@ -148,13 +165,13 @@ fn given_by_items(alloc: Global, view: View, items: &[Item], text: &[u8]) -> Res
 /// What the items of a schedule give, for the table that the reader has.
 fn given_by_schedule<R: Source>(
     alloc: Global,
-    view: View,
+    view: &View,
     items: &[Item],
     reader: &mut Counted<R>,
 ) -> Result<Given, ShowFault>
     ensures gives { Gives (R.remaining (inner_of reader.old)) (failures_of reader.old)
         (schedule items.now) (outcome_in result) (failures_of reader.new) }
-    ensures view { IfOk result (IsGivenFor (view_said view)) }
+    ensures view { IfOk result (IsGivenFor (view_said view.now)) }
 {
     let text = read_all(alloc, reader)?;
     let given = given_by_items(alloc, view, items, text.as_slice())?;
@@ -165,12 +182,12 @@ fn given_by_schedule<R: Source>(
 /// the table's.
 fn given_by_read_schedule<R: Source>(
     alloc: Global,
-    view: View,
+    view: &View,
     reader: &mut Counted<R>,
 ) -> Result<Given, ShowFault>
     ensures gives { Gives (R.remaining (inner_of reader.old)) (failures_of reader.old)
         schedule_read (outcome_in result) (failures_of reader.new) }
-    ensures view { IfOk result (IsGivenFor (view_said view)) }
+    ensures view { IfOk result (IsGivenFor (view_said view.now)) }
 {
     let text = read_all(alloc, reader)?;
     let Some((table, behind)) = parted(text.as_slice()) else {
@@ -184,14 +201,14 @@ fn given_by_read_schedule<R: Source>(
 /// What a pace gives up to a time, for the table that the reader has.
 fn given_by_pace<R: Source>(
     alloc: Global,
-    view: View,
+    view: &View,
     pace: Pace,
     until: u64,
     reader: &mut Counted<R>,
 ) -> Result<Given, ShowFault>
     ensures gives { Gives (R.remaining (inner_of reader.old)) (failures_of reader.old)
         (paced pace until) (outcome_in result) (failures_of reader.new) }
-    ensures view { IfOk result (IsGivenFor (view_said view)) }
+    ensures view { IfOk result (IsGivenFor (view_said view.now)) }
 {
     let text = read_all(alloc, reader)?;
     let run = run_at_pace(alloc, pace, until, text.as_slice())?;
@@ -203,7 +220,7 @@ fn given_by_pace<R: Source>(
 /// there.
 fn given_before(
     alloc: Global,
-    view: View,
+    view: &View,
     number: u32,
     kernel: Kernel<QueueStore>,
     departure: Departure,
@@ -211,7 +228,7 @@ fn given_before(
     ensures gives { IfOk result (λ given. outcome_in (Ok given) ≡ parts kernel.table
         (after_events kernel.table (opening kernel.table) (take (number - 1)
         (events_of kernel.machine.history))) (departure_said departure)) }
-    ensures view { IfOk result (IsGivenFor (view_said view)) }
+    ensures view { IfOk result (IsGivenFor (view_said view.now)) }
 {
     let kernel = kernel_before(alloc, kernel, number)?;
     let run = Run {
@@ -226,7 +243,7 @@ fn given_before(
 /// What a text gives that was followed.
 fn given_followed(
     alloc: Global,
-    view: View,
+    view: &View,
     text: &[u8],
     followed: Followed<QueueStore>,
 ) -> Result<Given, AllocError>
@@ -234,7 +251,7 @@ fn given_followed(
         followed.kernel.machine }
     requires tellable { IsTellable followed.kernel.table followed.verdict }
     ensures gives { IfOk result (λ given. IsToldBy text.now (outcome_in (Ok given))) }
-    ensures view { IfOk result (IsGivenFor (view_said view)) }
+    ensures view { IfOk result (IsGivenFor (view_said view.now)) }
 {
     let Followed { verdict, kernel } = followed;
     match &verdict {
@@ -261,9 +278,9 @@ fn given_followed(
 }
 
 /// What the text of a history gives. Its errors are those of [`follow`].
-fn given_by_text(alloc: Global, view: View, text: &[u8]) -> Result<Given, CliFault>
+fn given_by_text(alloc: Global, view: &View, text: &[u8]) -> Result<Given, CliFault>
     ensures gives { IfOk result (λ given. IsToldBy text.now (outcome_in (Ok given))) }
-    ensures view { IfOk result (IsGivenFor (view_said view)) }
+    ensures view { IfOk result (IsGivenFor (view_said view.now)) }
     ensures err { IfErr result
         (λ fault. (fault ≡ Memory) ⊎ IsToldBy text.now (stops (fails (Common fault)))) }
 {
@@ -280,12 +297,12 @@ fn given_by_text(alloc: Global, view: View, text: &[u8]) -> Result<Given, CliFau
 /// What the history that the reader has gives, behind its table.
 fn given_by_history<R: Source>(
     alloc: Global,
-    view: View,
+    view: &View,
     reader: &mut Counted<R>,
 ) -> Result<Given, ShowFault>
     ensures gives { Gives (R.remaining (inner_of reader.old)) (failures_of reader.old)
         history (outcome_in result) (failures_of reader.new) }
-    ensures view { IfOk result (IsGivenFor (view_said view)) }
+    ensures view { IfOk result (IsGivenFor (view_said view.now)) }
 {
     let text = read_all(alloc, reader)?;
     let given = given_by_text(alloc, view, text.as_slice())?;
@@ -305,14 +322,14 @@ pub fn given_by<R: Source>(
     match &showing.source {
         RunSource::Schedule(items) => given_by_schedule(
             alloc,
-            showing.view,
+            &showing.view,
             items.as_slice(),
             reader,
         ),
-        RunSource::ReadSchedule => given_by_read_schedule(alloc, showing.view, reader),
+        RunSource::ReadSchedule => given_by_read_schedule(alloc, &showing.view, reader),
         RunSource::Pace { pace, until } => {
-            given_by_pace(alloc, showing.view, *pace, *until, reader)
+            given_by_pace(alloc, &showing.view, *pace, *until, reader)
         }
-        RunSource::History => given_by_history(alloc, showing.view, reader),
+        RunSource::History => given_by_history(alloc, &showing.view, reader),
     }
 }

@@ -5,4 +5,4 @@ use Rattle.apex_lab.proofs.ends.tell_part.Goals as goal
 
 pub returns : goal.returns
 returns g c =
-    told_line _ _ _ _ (c.as_bytes.ensures.value ∙ c.as_str.ensures.value ∙ c.excerpt_line.ensures) c.write_error.ensures
+    told_line _ _ _ _ (c.as_bytes.ensures.value ∙ c.as_str.ensures.value ∙ c.part_line.ensures) c.write_error.ensures
