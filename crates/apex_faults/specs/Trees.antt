@@ -15,7 +15,7 @@ without_member k no_members = no_members
 without_member k (member l d ms) =
     if same_key k l then ms else member l d (without_member k ms)
 
--- the items with this value at this place, if they are so many
+-- the items with this value at place i, if there are more than i
 abbrev pub with_item : ℕ → Data → Items → Items
 with_item i d no_items = no_items
 with_item zero d (item e ds) = item d ds

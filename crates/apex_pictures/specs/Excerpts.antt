@@ -7,8 +7,8 @@ use Rattle.apex_pictures.specs.declared.excerpts.TheConstants.{MOST_COLUMNS}
 abbrev pub last_drawn : ℕ → ℕ → ℕ
 last_drawn first last = min last (first + (MOST_COLUMNS - 1))
 
--- what is drawn of the entries from the first to the last, in a run of so many; none if it is all of
--- them
+-- the part of the entries from the first to the last that is drawn, in a run of `entries` entries; none
+-- if all of them are drawn
 abbrev pub excerpt_of : ℕ → ℕ → ℕ → Option Excerpt
 excerpt_of first last entries =
     if nat_le last (last_drawn first last) then None

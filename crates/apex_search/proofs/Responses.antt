@@ -161,7 +161,7 @@ module _ (system : Searched) (p : ℕ) where
   abbrev last_deed : List Event → Event → Deed
   last_deed earlier last = deed system.table (paced_run system.table (paced_opening system.table) earlier).situation last
 
-  -- a schedule with a response leads to the fact of one of at least so many ticks
+  -- a schedule with a response leads to the fact of a response of at least `least` ticks
   pub leads_to_fact : (least period response : ℕ) (events : List Event) → LeadsToResponse system p period response events
       → min least (period + 1) ≤ response → LeadsToFact (responding system p least) events
   leads_to_fact least period response events leads long = record {
@@ -391,7 +391,7 @@ module _ (system : Searched) (p n : ℕ) where
       → LeadsToFact asking events
   reaches events period response leads long = leads_to_fact system p n period response events leads (omega (arith, long))
 
-  -- what the search says of a response of so many ticks
+  -- a search without a schedule for a response of n ticks: all responses are below n
   pub all_below : NoSchedule asking → AllBelow system p n
   all_below none events period response leads = below_or response (λ long. none events (reaches events period response leads long))
 

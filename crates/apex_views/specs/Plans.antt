@@ -79,7 +79,7 @@ IsStyleOf (svg window) history departure style.Trace = ⊥
 IsStyleOf trace history departure (style.Svg frame) = ⊥
 IsStyleOf trace history departure style.Trace = Unit {0}
 
--- what is drawn of a span, in a run of so many entries; none if it is all of it
+-- the part of a span that is drawn, in a run of `entries` entries; none if all of it is drawn
 abbrev pub excerpt_at : Option Span → ℕ → Option Excerpt
 excerpt_at None entries = None
 excerpt_at (Some span) entries = excerpt_of span.first span.last entries
