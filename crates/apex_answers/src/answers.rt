@@ -7,12 +7,15 @@ ghost use Rattle.apex_table.specs.Reading.{table_of};
 ghost use Rattle.apex_answers.specs.Answers.{IsAnswerOf};
 
 use apex_dispatch::Kernel;
-use apex_explore::Answer;
+use apex_explore::{Answer, Watch};
+use apex_jobs::Jobs;
 use apex_process::QueueStore;
 use apex_search::TableSystem;
 use apex_table::{Table, TableFault, read_table};
 use apex_types::Event;
 use std::alloc::{AllocError, Global};
+use std::marker::Sync;
+use std::thread::Threads;
 
 /// What a search says of the schedules of a pace.
 #[derive(Drop)]
@@ -74,17 +77,19 @@ fn answer_for(
 /// What a search of the system with room for this many states says. The text is that of the
 /// system's table. Fails only for want of memory.
 ///
-/// The room is taken before the first event.
-pub fn answer_of(
+/// The room is taken before the first event. The jobs share the search.
+pub fn answer_of<R: Threads + Sync, V: Watch>(
     alloc: Global,
     system: &TableSystem,
     room: u32,
     text: &[u8],
+    jobs: &Jobs<'_, R>,
+    watch: &mut V,
 ) -> Result<SearchAnswer, AllocError>
     requires table { table_of text.now ≡ Ok system.now.table }
     ensures { IfOk result (IsAnswerOf system.now room) }
 {
-    match system.search(alloc, room)? {
+    match system.search(alloc, room, jobs, watch)? {
         Answer::Found(path) => answer_for(alloc, system, path.as_slice(), text),
         Answer::Closed { states } => Ok(SearchAnswer::Never(states)),
         Answer::Full { depth } => Ok(SearchAnswer::NoneWithin(depth)),

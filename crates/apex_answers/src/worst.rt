@@ -11,12 +11,16 @@ use crate::answers::kernel_of;
 use crate::printing::write_run;
 use crate::texts::{Text, none_within, put_number, put_states, states_line};
 use apex_dispatch::Kernel;
+use apex_explore::Watch;
 use apex_history::{Counted, Sink};
+use apex_jobs::Jobs;
 use apex_process::QueueStore;
 use apex_search::{Slowest, TableSystem, Worst};
 use apex_types::{Event, ProcessId};
 use std::alloc::{AllocError, Global};
 use std::io::{Result as IoResult, Write};
+use std::marker::Sync;
+use std::thread::Threads;
 
 /// What a search for the greatest response of a process says, and the kernel that has made the
 /// events of the schedule that was found, if one was.
@@ -45,19 +49,21 @@ fn kernel_after(
 /// What a search for the greatest response of the process says, with room for this many states. The
 /// text is that of the system's table. Fails only for want of memory.
 ///
-/// The room is taken before the first event.
-pub fn worst_of(
+/// The room is taken before the first event. The jobs share the search.
+pub fn worst_of<R: Threads + Sync, V: Watch>(
     alloc: Global,
     system: TableSystem,
     process: ProcessId,
     room: u32,
     text: &[u8],
+    jobs: &Jobs<'_, R>,
+    watch: &mut V,
 ) -> Result<WorstAnswer, AllocError>
     requires { table_of text.now ≡ Ok system.table }
     ensures { IfOk result (IsWorstAnswer system process room) }
 {
     system.table().lawful();
-    let worst = system.worst(alloc, process, room)?;
+    let worst = system.worst(alloc, process, room, jobs, watch)?;
     match worst.schedule() {
         Some(events) => {
             let kernel = kernel_after(alloc, text, events)?;

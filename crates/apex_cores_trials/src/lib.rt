@@ -1,5 +1,5 @@
 //! The tests of partitions that threads share: seats, receipts, gates, refused threads, and
-//! contention; and those of the program that no stored case can show. It has no code of its own.
+//! contention. It has no code of its own.
 #![tactic(auto)]
 
 #[cfg(test)]
@@ -10,8 +10,6 @@ mod cores;
 mod openings;
 #[cfg(test)]
 mod partition;
-#[cfg(test)]
-mod program;
 #[cfg(test)]
 mod steps;
 #[cfg(test)]

@@ -4,10 +4,11 @@ use Rattle.std.proofs.lemmas.Bool.{cases_lt, lt-ltb, le-ltb}
 use Rattle.std.proofs.lemmas.Option.{same_Some}
 use Rattle.std.specs.List.{slice_get}
 use Rattle.apex_explore.specs.Systems.{Step, refuses, goes, step_within}
-use Rattle.apex_explore.specs.declared.states.Origin.{Origin}
+use Rattle.apex_states.specs.declared.states.Origin.{Origin}
 use Rattle.apex_explore.specs.Levels.{IsAmong, Keeps, IsChild, Grows}
-use Rattle.apex_explore.specs.Lists.{AllAre, IsFront}
-use Rattle.apex_explore.proofs.Levels.{at_old_place, IsFront-refl, IsFront-trans, IsFront-push, Keeps-widen, IsChild-widen}
+use Rattle.apex_states.specs.Lists.{AllAre, IsFront}
+use Rattle.apex_states.proofs.Fronts.{at_old_place, IsFront-refl, IsFront-trans, IsFront-push}
+use Rattle.apex_explore.proofs.Levels.{Keeps-widen, IsChild-widen}
 
 slice_get-push : {X : Type 0} (xs : List X) (y : X) → slice_get (xs ++ y ∷ []) (length xs) ≡ Some y
 slice_get-push [] y = refl

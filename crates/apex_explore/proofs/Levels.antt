@@ -7,26 +7,13 @@ use Rattle.std.proofs.lemmas.List.Elements.{Contains-append_cases}
 use Rattle.std.specs.List.{slice_get, AllPairs, Contains}
 use Rattle.apex_explore.specs.Systems.{Step}
 use Rattle.apex_explore.specs.Systems.{refuses, goes, hits}
-use Rattle.apex_explore.specs.declared.states.Origin.{Origin}
+use Rattle.apex_states.specs.declared.states.Origin.{Origin}
 use Rattle.apex_explore.specs.Paths.{Leads, IsHit, NoHit, NoHitWithin, IsShortestHit, IsReachableWithin, ReachesExactly, ReachesWithin}
 use Rattle.apex_explore.specs.Levels.{IsAmong, Keeps, IsTrail, IsChild, IsTraced, IsLevel, Grows, turned}
-use Rattle.apex_explore.specs.Lists.{IsFront}
+use Rattle.apex_states.specs.Lists.{IsFront}
 use Rattle.apex_explore.specs.declared.fronts.Front.{Front}
+use Rattle.apex_states.proofs.Fronts.{at_old_place, IsFront-refl}
 use Rattle.apex_explore.proofs.Leading.{Leads-push, Ends-from_Leads}
-
-pub IsFront-refl : {X : Type 0} (xs : List X) → IsFront xs xs
-IsFront-refl xs = record { same = λ _ _ h. h; longer = omega arith }
-
-pub IsFront-trans : {X : Type 0} {xs ys zs : List X} → IsFront xs ys → IsFront ys zs → IsFront xs zs
-IsFront-trans f g = record { same = λ i x h. g.same i x (f.same i x h); longer = omega arith }
-
-pub IsFront-push : {X : Type 0} (xs : List X) (y : X) → IsFront xs (xs ++ y ∷ [])
-IsFront-push xs y = record { same = same xs; longer = simp length-append (omega arith) }
-  where
-    same : (xs : List _) (i : ℕ) (x : _) → slice_get xs i ≡ Some x → slice_get (xs ++ y ∷ []) i ≡ Some x
-    same [] i x h = cc
-    same (z ∷ zs) zero x h = h
-    same (z ∷ zs) (suc i) x h = same zs i x h
 
 pub IsAmong-widen : {K : Type 0} {states states' : List K} {n : K} (count count' : ℕ) → IsFront states states' → count ≤ count' → IsAmong states count n → IsAmong states' count' n
 IsAmong-widen count count' front le among = record { place = among.place; within = omega arith; is = front.same among.place _ among.is }
@@ -35,13 +22,6 @@ pub Keeps-widen : {K : Type 0} {states states' : List K} (taken : Step K) → Is
 Keeps-widen refuses front kept = kept
 Keeps-widen {states = states} {states' = states'} (goes n) front kept = IsAmong-widen (length states) (length states') front front.longer kept
 Keeps-widen hits front kept = kept
-
--- A key of the new list at a place of the old one is the old one's.
-pub at_old_place : {X : Type 0} (old new : List X) (place : ℕ) (x : X) → IsFront old new → place < length old → slice_get new place ≡ Some x → slice_get old place ≡ Some x
-at_old_place old new place x front within is =
-    let was = slice_get-get_or old place x within in
-    let same : Some (get_or old place x) ≡ Some x = sym (front.same place (get_or old place x) was) ∙ is in
-    was ∙ same
 
 only : {K : Type 0} (n m : K) → Contains (n ∷ []) m → n ≡ m
 only n m (zero, below, is) = is
@@ -52,6 +32,12 @@ turned-end front count same = rw same refl
 
 turned-same : (front : Front) (count : ℕ) → front.at == front.level_end ≡ false → turned front count ≡ front
 turned-same front count other = rw other refl
+
+pub turned_at : (front : Front) (count : ℕ) → (turned front count).at ≡ front.at
+turned_at front count = elim (cases_Bool (front.at == front.level_end)) [
+  | inl same ↦ ap (λ (f : Front). f.at) (turned-end front count same)
+  | inr other ↦ ap (λ (f : Front). f.at) (turned-same front count other)
+]
 
 module _ {K : Type 0} (step : K → ℕ → Step K) where
   pub IsChild-widen : {states states' : List K} {origins origins' : List Origin} (parent place : ℕ) → IsFront states states' → IsFront origins origins' → IsChild step states origins parent place → IsChild step states' origins' parent place
@@ -371,16 +357,16 @@ module _ {K : Type 0} (step : K → ℕ → Step K) where
       )
 
   -- The search is over with a state for which there is no room.
-  pub IsLevel-full : (first : K) (states : List K) (origins : List Origin) (at depth level_end : ℕ) (k n : K) (choice : ℕ)
-      → at < level_end
+  pub IsLevel-full : (first : K) (states : List K) (origins : List Origin) (at depth level_end place : ℕ) (k n : K) (choice : ℕ)
+      → at ≤ place → place < level_end
       → AllPairs (λ a b. a ≢ b) (states ++ n ∷ [])
       → IsLevel step states origins first at depth level_end
-      → slice_get states at ≡ Some k
+      → slice_get states place ≡ Some k
       → step k choice ≡ goes n
       → NoHitWithin step first depth × ReachesWithin step first (depth + 1) (length states + 1)
-  IsLevel-full first states origins at depth level_end k n choice here apart level is goes_is =
-      let to_at = level.now at (omega arith) here in
-      let before = Trail-from_IsTraced states origins first level.root depth at k is to_at in
+  IsLevel-full first states origins at depth level_end place k n choice above here apart level is goes_is =
+      let to_place = level.now place above here in
+      let before = Trail-from_IsTraced states origins first level.root depth place k is to_place in
       let known : (m : K) → Contains states m → IsReachableWithin step first (depth + 1) m =
       reach_from_trace first states origins (depth + 1) level.root (within_next first states origins at depth level_end level) in
       let newest : IsReachableWithin step first (depth + 1) n =

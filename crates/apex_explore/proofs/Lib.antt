@@ -1,12 +1,9 @@
 pub mod Encoding
 pub mod Growth
 pub mod Hitting
+pub mod Keeping
 pub mod Leading
 pub mod Levels
-pub mod Packing
-pub mod Probing
-pub mod Registering
-pub mod Storing
+pub mod Parting
 pub mod Trails
-pub mod Trees
 pub mod Weaker

@@ -2,18 +2,18 @@
 use Rattle.std.proofs.Common.{◌≡◌, ℕ, zero, suc, ◌+◌, ◌<◌, ◌≤◌, ◌⊎◌, Bool, true, false, List, [], ◌∷◌, ◌++◌, length, length-append, refl, sym, ap, ◌∙◌, subst, inl, inr, arith}
 use Rattle.std.proofs.lemmas.Option.{slice_get_within}
 use Rattle.apex_explore.specs.Levels.{IsAt, IsChild, IsLevel, IsTraced, Keeps}
-use Rattle.apex_explore.specs.Lists.{AllAre}
+use Rattle.apex_states.specs.Lists.{AllAre}
 use Rattle.apex_explore.specs.Paths.{Leads, NoHitWithin, ReachesWithin}
 use Rattle.apex_explore.specs.Searches.{IsSearched, IsSearchedBefore, Weakens}
-use Rattle.apex_explore.specs.States.{IsKept, Reached}
+use Rattle.apex_states.specs.States.{IsKept, Reached}
 use Rattle.apex_explore.specs.Systems.{Step, goes, hits}
 use Rattle.apex_explore.specs.declared.fronts.Front.{Front}
 use Rattle.apex_explore.specs.declared.searches.Search.{Search}
-use Rattle.apex_explore.specs.declared.states.Origin.{Origin}
+use Rattle.apex_states.specs.declared.states.Origin.{Origin}
 use Rattle.apex_explore.proofs.Growth.{AllAre-one}
 use Rattle.apex_explore.proofs.Leading.{Ends-from_Leads, Leads-push}
 use Rattle.apex_explore.proofs.Levels.{IsLevel-start, nothing_within}
-use Rattle.apex_explore.proofs.Storing.{kept_first, kept_width}
+use Rattle.apex_explore.proofs.Keeping.{kept_first, kept_width}
 
 -- A step that keeps to the states doesn't hit.
 hits_nothing : {K : Type 0} (states : List K) (taken : Step K) → Keeps states taken → taken ≡ hits → ⊥

@@ -6,11 +6,11 @@ use Rattle.apex_explore.specs.declared.search.Expanded.{Expanded}
 use Rattle.apex_explore.specs.declared.search.Expanded.TheVariants.{All, Struck, Over}
 use Rattle.apex_explore.specs.declared.search.Stop.{Stop}
 use Rattle.apex_explore.specs.declared.search.Stop.TheVariants as stops
-use Rattle.apex_explore.specs.declared.states.Origin.{Origin}
-use Rattle.apex_explore.specs.Index.{IsKnown}
-use Rattle.apex_explore.specs.Lists.{IsFront}
+use Rattle.apex_states.specs.declared.states.Origin.{Origin}
+use Rattle.apex_states.specs.Index.{IsKnown}
+use Rattle.apex_states.specs.Lists.{IsFront}
 use Rattle.apex_explore.specs.Paths.{Leads}
-use Rattle.apex_explore.specs.States.{Reached}
+use Rattle.apex_states.specs.States.{Reached}
 use Rattle.apex_explore.specs.Systems.{Step, refuses, goes, hits}
 
 -- the front at its next state: at the end of a level the next one begins, which has all states that
@@ -104,11 +104,11 @@ abbrev pub IsAt : (List ℕ → ℕ → Step (List ℕ)) → List ℕ → Reache
 IsAt step first reached front =
     IsLevel step reached.states reached.origins first front.at front.depth front.level_end
 
--- why the search stops at the front: a choice hits in the state there, one goes on to a state for
--- which there is no room, or each state is done
+-- why the search stops: a choice hits in the state at the front, one goes on from a state of the
+-- level to one for which there is no room, or each state is done
 abbrev pub Stops : (List ℕ → ℕ → Step (List ℕ)) → Reached → Front → Stop → Type 0
 Stops step reached front (stops.Struck choice) = (front.at < front.level_end)
     × Comes step reached.states reached.room front.at (Struck choice)
-Stops step reached front stops.Over = (front.at < front.level_end)
-    × Comes step reached.states reached.room front.at Over
+Stops step reached front stops.Over = (place : ℕ) × (front.at ≤ place) × (place < front.level_end)
+    × Comes step reached.states reached.room place Over
 Stops step reached front stops.Done = length reached.states ≤ front.at

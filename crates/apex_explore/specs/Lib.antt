@@ -1,12 +1,7 @@
 pub mod Answers
 pub mod Encoding
-pub mod Index
 pub mod Levels
-pub mod Lists
-pub mod Nodes
+pub mod Parts
 pub mod Paths
-pub mod Registers
-pub mod Rows
 pub mod Searches
-pub mod States
 pub mod Systems

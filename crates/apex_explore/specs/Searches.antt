@@ -1,8 +1,10 @@
 -- A search that can go on: what it has reached, and what that says of the steps of a system.
-use Rattle.std.specs.Prelude.{◌≡◌, ℕ, ◌⊎◌, List, [], length}
+use Rattle.std.specs.Prelude.{◌≡◌, ℕ, ◌<◌, ◌⊎◌, List, [], length}
+use Rattle.apex_explore.specs.declared.fronts.Front.{Front}
+use Rattle.apex_explore.specs.declared.searches.Places.{Places}
 use Rattle.apex_explore.specs.declared.searches.Search.{Search}
 use Rattle.apex_explore.specs.Levels.{IsAt}
-use Rattle.apex_explore.specs.Lists.{AllAre}
+use Rattle.apex_states.specs.Lists.{AllAre}
 use Rattle.apex_explore.specs.Systems.{Step, hits}
 
 -- the new step is weaker: it does in each state what the old one does, unless that hits
@@ -31,8 +33,18 @@ IsSearched step first search =
     ((search.states.states ≡ []) × (search.states.room ≡ 0))
     ⊎ IsAt step first search.states search.front
 
+-- the search has states, and is as far as its front
+abbrev pub IsUnderWay : {W : Type 0} → (List ℕ → ℕ → Step (List ℕ)) → List ℕ → Search W → Type 0
+IsUnderWay step first search = IsAt step first search.states search.front
+
 -- the search was made by a step that this one weakens
 abbrev pub IsSearchedBefore : {W : Type 0} → (List ℕ → ℕ → Step (List ℕ)) → List ℕ → Search W
     → Type 0
 IsSearchedBefore step first search = (before : List ℕ → ℕ → Step (List ℕ))
     × Weakens before step × IsSearched before first search
+
+-- the places from the front to the end of its level
+pub record AreLeft (front : Front) (places : Places) : Type 0 where
+  pub from : places.from ≡ front.at
+  pub limit : places.limit ≡ front.level_end
+  pub some : places.from < places.limit

@@ -5,18 +5,18 @@
 mod answers;
 mod fronts;
 mod hits;
-mod index;
-mod nodes;
+mod parts;
 mod paths;
-mod registers;
-mod rows;
 mod search;
 mod searches;
-mod states;
 mod systems;
+mod taking;
+mod watches;
 
 pub use answers::Answer;
 pub use hits::is_hit;
-pub use search::explore;
-pub use searches::Search;
+pub use parts::{Expansion, expand_part};
+pub use search::{Stop, explore};
+pub use searches::{Places, Search};
 pub use systems::{System, Taken};
+pub use watches::{NoWatch, Watch};

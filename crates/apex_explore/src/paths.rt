@@ -2,7 +2,7 @@
 ghost use Rattle.std.specs.Prelude.{◌≡◌, ℕ, List, IfOk};
 ghost use Rattle.apex_explore.specs.Levels.{IsTrail};
 
-use crate::states::Origin;
+use apex_states::Origin;
 use std::alloc::{AllocError, Global};
 
 /// The choices that lead from the first state to the one at `place`, which is `depth` choices away

@@ -1,16 +1,31 @@
 //! A search that can go on after an answer.
-ghost use Rattle.std.specs.Prelude.{◌≡◌, IfOk};
+ghost use Rattle.std.specs.Prelude.{◌≡◌, ◌≤◌, ◌+◌, length, IfOk, IfSome, None};
 ghost use Rattle.apex_explore.specs.Answers.{Says};
-ghost use Rattle.apex_explore.specs.Searches.{IsOver, IsSearched, IsSearchedBefore, room_of};
+ghost use Rattle.apex_explore.specs.Levels.{Stops};
+ghost use Rattle.apex_explore.specs.Parts.{Fit};
+ghost use Rattle.apex_explore.specs.Searches.{AreLeft, IsOver, IsSearched, IsSearchedBefore, IsUnderWay, room_of};
 ghost use Rattle.apex_explore.specs.Systems.{step_within};
 
 use crate::answers::Answer;
 use crate::fronts::Front;
+use crate::parts::Expansion;
 use crate::paths::path_to;
 use crate::search::{Stop, advance};
-use crate::states::{Origin, States};
 use crate::systems::System;
+use crate::taking::take_all;
+use crate::watches::Watch;
+use apex_states::{Origin, States};
 use std::alloc::{AllocError, Global};
+
+/// After this many states a search shows how far it has come.
+const STRIDE: usize = 4096;
+
+/// Places of states, from `from` on and before `limit`.
+#[derive(Clone, Copy)]
+pub struct Places {
+    pub from: usize,
+    pub limit: usize,
+}
 
 /// A search: the states that it has reached, and how far it has come.
 ///
@@ -65,14 +80,156 @@ impl<W: Drop> Search<W> {
         })
     }
 
+    /// The number of states that were reached: none if there is no room for one.
+    pub fn len(&self) -> usize
+        ensures { result ≡ length self.now.states.states }
+    {
+        self.states.len()
+    }
+
+    /// The states that were reached.
+    pub fn states(&self) -> &States
+        ensures { result.now ≡ self.now.states }
+    {
+        &self.states
+    }
+
+    /// Shows how far the search has come. It has reached no more states than there is room for.
+    pub fn show<V: Watch>(&self, watch: &mut V)
+        ensures { length self.now.states.states ≤ room_of self.now }
+    {
+        watch.reached(self.states.len(), self.front.depth);
+    }
+
+    /// The states of the level that are left, the next one first, or none if each state is done.
+    pub fn turn<S: System<Workspace = W>>(&mut self, system: &S) -> Option<Places>
+        requires searched { let step = step_within (S.choice_count system.now) (S.step system.now) in
+            IsUnderWay step (S.start system.now) self.old }
+        ensures searched { let step = step_within (S.choice_count system.now) (S.step system.now) in
+            IsUnderWay step (S.start system.now) self.new }
+        ensures left { IfSome result (AreLeft self.new.front) }
+        ensures done { result ≡ None → length self.new.states.states ≤ self.new.front.at }
+        ensures same { self.new ≡ record self.old { front = self.new.front } }
+        ensures further { self.old.front.at ≡ self.new.front.at }
+    {
+        let states = self.states.len();
+        if self.front.at >= states {
+            return None;
+        }
+        self.front = self.front.turned(states);
+        Some(Places {
+            from: self.front.at,
+            limit: self.front.level_end,
+        })
+    }
+
+    /// Goes on for this many states, one after the other, or until there is an answer: why it stops
+    /// then. Fails only for want of memory.
+    pub fn go_on_for<S: System<Workspace = W>>(
+        &mut self,
+        alloc: Global,
+        system: &S,
+        count: usize,
+    ) -> Result<Option<Stop>, AllocError>
+        requires over { IsOver (S.word_count system.now) (S.is_state system.now)
+            (S.is_workspace system.now) self.old }
+        requires searched { let step = step_within (S.choice_count system.now) (S.step system.now) in
+            IsUnderWay step (S.start system.now) self.old }
+        ensures over { IfOk result (λ _. IsOver (S.word_count system.now) (S.is_state system.now)
+            (S.is_workspace system.now) self.new) }
+        ensures searched { let step = step_within (S.choice_count system.now) (S.step system.now) in
+            IfOk result (λ _. IsUnderWay step (S.start system.now) self.new) }
+        ensures stop { let step = step_within (S.choice_count system.now) (S.step system.now) in
+            IfOk result (λ stop. IfSome stop (Stops step self.new.states self.new.front)) }
+        ensures count { IfOk result (λ stop. stop ≡ None
+            → self.new.front.at ≡ self.old.front.at + count) }
+        ensures room { IfOk result (λ _. room_of self.new ≡ room_of self.old) }
+    {
+        let (state, next) = (self.state.as_mut_slice(), self.next.as_mut_slice());
+        advance(
+            alloc,
+            system,
+            &mut self.workspace,
+            state,
+            next,
+            &mut self.states,
+            &mut self.front,
+            count,
+        )
+    }
+
+    /// Goes on by these expansions of parts, which begin at the state that is next and end at `limit`,
+    /// or until there is an answer: why it stops then. Fails only for want of memory.
+    pub fn take<S: System<Workspace = W>>(
+        &mut self,
+        alloc: Global,
+        system: &S,
+        limit: usize,
+        expansions: &[Expansion],
+    ) -> Result<Option<Stop>, AllocError>
+        requires over { IsOver (S.word_count system.now) (S.is_state system.now)
+            (S.is_workspace system.now) self.old }
+        requires searched { let step = step_within (S.choice_count system.now) (S.step system.now) in
+            IsUnderWay step (S.start system.now) self.old }
+        requires fit { let step = step_within (S.choice_count system.now) (S.step system.now) in
+            Fit step (S.is_state system.now) self.old.states self.old.front limit expansions.now }
+        ensures over { IfOk result (λ _. IsOver (S.word_count system.now) (S.is_state system.now)
+            (S.is_workspace system.now) self.new) }
+        ensures searched { let step = step_within (S.choice_count system.now) (S.step system.now) in
+            IfOk result (λ _. IsUnderWay step (S.start system.now) self.new) }
+        ensures stop { let step = step_within (S.choice_count system.now) (S.step system.now) in
+            IfOk result (λ stop. IfSome stop (Stops step self.new.states self.new.front)) }
+        ensures limit { IfOk result (λ stop. stop ≡ None → self.new.front.at ≡ limit) }
+        ensures room { IfOk result (λ _. room_of self.new ≡ room_of self.old) }
+    {
+        let state = self.state.as_mut_slice();
+        take_all(
+            alloc,
+            system,
+            &mut self.states,
+            &mut self.front,
+            state,
+            limit,
+            expansions,
+        )
+    }
+
+    /// The answer of a search that stops. Fails only for want of memory.
+    pub fn answer<S: System<Workspace = W>>(
+        &self,
+        alloc: Global,
+        system: &S,
+        stop: Stop,
+    ) -> Result<Answer, AllocError>
+        requires searched { let step = step_within (S.choice_count system.now) (S.step system.now) in
+            IsUnderWay step (S.start system.now) self.now }
+        requires stop { let step = step_within (S.choice_count system.now) (S.step system.now) in
+            Stops step self.now.states self.now.front stop }
+        ensures { let step = step_within (S.choice_count system.now) (S.step system.now) in
+            IfOk result (Says step (S.start system.now) (room_of self.now)) }
+    {
+        let Front { at, depth, .. } = self.front;
+        let states = self.states.len();
+        match stop {
+            Stop::Struck(choice) => {
+                let mut path = path_to(alloc, self.states.origins(), at, depth)?;
+                path.push(choice)?;
+                Ok(Answer::Found(path))
+            }
+            Stop::Over => Ok(Answer::Full { depth }),
+            Stop::Done => Ok(Answer::Closed { states }),
+        }
+    }
+
     /// Searches on, nearest states first, for a choice of the system that hits: its answer is the
     /// same as that of a search anew. What the states have in common takes memory, and so does the
     /// path that is found. Fails only for want of it: nothing is known of the search then, so it can
     /// only be dropped.
-    pub fn go_on<S: System<Workspace = W>>(
+    pub fn go_on<S: System<Workspace = W>, V: Watch>(
         &mut self,
         alloc: Global,
         system: &S,
+        watch: &mut V,
     ) -> Result<Answer, AllocError>
         requires over { IsOver (S.word_count system.now) (S.is_state system.now)
             (S.is_workspace system.now) self.old }
@@ -86,29 +243,16 @@ impl<W: Drop> Search<W> {
             IfOk result (λ _. IsSearched step (S.start system.now) self.new) }
         ensures room { IfOk result (λ _. room_of self.new ≡ room_of self.old) }
     {
-        if self.states.len() == 0 {
+        if self.len() == 0 {
             return Ok(Answer::Full { depth: 0 });
         }
-        let (state, next) = (self.state.as_mut_slice(), self.next.as_mut_slice());
-        let stop = advance(
-            alloc,
-            system,
-            &mut self.workspace,
-            state,
-            next,
-            &mut self.states,
-            &mut self.front,
-        )?;
-        let Front { at, depth, .. } = self.front;
-        let states = self.states.len();
-        match stop {
-            Stop::Struck(choice) => {
-                let mut path = path_to(alloc, self.states.origins(), at, depth)?;
-                path.push(choice)?;
-                Ok(Answer::Found(path))
+        loop {
+            self.show(watch);
+            let stopped = self.go_on_for(alloc, system, STRIDE)?;
+            match stopped {
+                Some(stop) => return self.answer(alloc, system, stop),
+                None => {}
             }
-            Stop::Over => Ok(Answer::Full { depth }),
-            Stop::Done => Ok(Answer::Closed { states }),
         }
     }
 }

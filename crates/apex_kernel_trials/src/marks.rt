@@ -1,12 +1,9 @@
 //! The mark of a departure in a picture.
 
-use crate::scans::booted;
-use apex_history::Counted;
-use apex_pictures::{Frame, Mark, Style, draw};
-use apex_table::read_table;
+use crate::axes::{drawn, frame_of};
+use apex_pictures::{Axis, Mark};
 use apex_types::{CoreId, Event};
 use std::alloc::Global;
-use std::mem::drop;
 use std::process::Abort;
 
 /// The init steps create the process and start it.
@@ -22,7 +19,7 @@ script = ["GET_MY_ID"]
 
 /// The end of the picture's last column, and the mark behind it.
 const MARK: &str =
-    "</g>\n<g class='departure' transform='translate(129,0)'>\n<line class='departs' y1='";
+    "</g>\n<g class='departure' transform='translate(153,0)'>\n<line class='departs' y1='";
 
 /// The two lines of the mark.
 const LINES: [&str; 2] = [
@@ -40,20 +37,13 @@ fn bytes_of<R: Abort>(rt: &R, alloc: Global, text: &str) -> Vec<u8> {
 
 /// The picture of three turns, behind which a line departs.
 fn picture_of<R: Abort>(rt: &R, alloc: Global) -> Vec<u8> {
-    let table = read_table(alloc, TABLE.as_bytes()).expect(rt, "the table is lawful");
-    assert!(rt; table.cores() == 1);
-    let mut kernel = booted(rt, alloc, table);
+    let turns = [Event::Turn(CoreId::new(0)); 3];
+    let frame = frame_of(rt, alloc, TABLE, Axis::Entries, &turns);
     let mark = Mark {
         expected: bytes_of(rt, alloc, "4 0 core0 1 GET_MY_ID -> NO_ERROR:1"),
         given: bytes_of(rt, alloc, "4 0 core0 1 <&\\x09"),
     };
-    let style = Style::Svg(Frame::new(&kernel, 1, 3).marked(mark));
-    let turns = [Event::Turn(CoreId::new(0)); 3];
-    let mut picture = Counted::new(Vec::new(alloc));
-    let drawn = draw(alloc, &style, &mut kernel, &turns, &mut picture);
-    drop(kernel);
-    drawn.expect(rt, "memory");
-    picture.into_inner()
+    drawn(rt, alloc, TABLE, frame.marked(mark), &turns)
 }
 
 #[test]

@@ -4,15 +4,15 @@ use Rattle.clap.specs.Words.{Row, Text, first_of}
 use Rattle.apex_console.specs.Words.{says_given}
 use Rattle.apex_lab.specs.Words.{Given, LintSaid, SearchSaid, as_svg, given_by, given_in, lint_in, search_in, why_in, why_of}
 
-pub same_svg : {f k l m : Option Text} → f ≡ k → l ≡ m → as_svg f l ≡ as_svg k m
-same_svg a b = rw (a, b) refl
+pub same_svg : {f k l m a b : Option Text} → f ≡ k → l ≡ m → a ≡ b → as_svg f l a ≡ as_svg k m b
+same_svg x y z = rw (x, y, z) refl
 
 pub same_given : {s t u v k l e f : Option Text} → s ≡ t → u ≡ v → k ≡ l → e ≡ f → given_by s u k e ≡ given_by t v l f
 same_given a b c d = rw (a, b, c, d) refl
 
 -- a search, by the texts of its options
-abbrev search_for_texts : (fact worst process service turns early states : Option Text) → SearchSaid
-search_for_texts fact worst process service turns early states = record {
+abbrev search_for_texts : (fact worst process service turns early states jobs : Option Text) → SearchSaid
+search_for_texts fact worst process service turns early states jobs = record {
   fact = fact;
   worst = worst;
   process = process;
@@ -20,15 +20,16 @@ search_for_texts fact worst process service turns early states = record {
   turns = turns;
   early = early;
   states = states;
+  jobs = jobs;
 }
 
 -- it is the one that the options ask for
-pub same_search : {fact worst process service turns early states : Option Text} (rows : List Row)
+pub same_search : {fact worst process service turns early states jobs : Option Text} (rows : List Row)
     → fact ≡ first_of (codes "for") rows → worst ≡ first_of (codes "worst") rows → process ≡ first_of (codes "process") rows
     → service ≡ first_of (codes "service") rows → turns ≡ first_of (codes "turns") rows
-    → early ≡ first_of (codes "early") rows → states ≡ first_of (codes "states") rows
-    → search_for_texts fact worst process service turns early states ≡ search_in rows
-same_search rows a b c d e f g = rw (a, b, c, d, e, f, g) refl
+    → early ≡ first_of (codes "early") rows → states ≡ first_of (codes "states") rows → jobs ≡ first_of (codes "jobs") rows
+    → search_for_texts fact worst process service turns early states jobs ≡ search_in rows
+same_search rows a b c d e f g h = rw (a, b, c, d, e, f, g, h) refl
 
 -- a lint, by its options
 abbrev lint_for : Bool → Option Text → Option Text → LintSaid

@@ -16,8 +16,9 @@ end_of_verdict (Ok (Legal n)) = complete
 end_of_verdict (Ok (DepartsAt n expected)) = explains
 end_of_verdict (Err fault) = fails (Common (fault_of_checking fault))
 
--- a history, which may have comments, was checked and explained in this form, and the program ends as the verdict
--- says: by the reader and the writer before, the end, and the reader and the writer afterwards
+-- a history, which may have comments, was checked and explained in this form, and the program ends as
+-- the verdict says: by the reader and the writer before, the end, and the reader and the writer
+-- afterwards
 abbrev pub CheckEnds : Form → Bool → Ports → End → Ports → Type 0
 CheckEnds form comments before ends after =
     (verdict : Result Verdict CheckFault) × (ends ≡ end_of_verdict verdict)

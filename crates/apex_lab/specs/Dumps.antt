@@ -1,7 +1,6 @@
 -- The value changes of a run, and how the program ends.
-use Rattle.std.specs.Prelude.{◌≡◌, ℕ, [], List, Option, None, Some, All}
+use Rattle.std.specs.Prelude.{◌≡◌, ℕ, List, Option, None, Some, All}
 use Rattle.std.specs.Io.KnownBytes.{Appends, Keeps}
-use Rattle.apex_dispatch.specs.Kernel.{KernelState}
 use Rattle.apex_machine.specs.Events.{IsWithin}
 use Rattle.apex_machine.specs.Machine.{Machine, opening, run}
 use Rattle.apex_machine.specs.table.Table.{Table}

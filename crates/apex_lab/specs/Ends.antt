@@ -47,9 +47,9 @@ end_in (Ok Warned) = warns
 end_in (Ok Refused) = refuses
 end_in (Err fault) = fails fault
 
--- the exit status: 0 if the run was shown, or a part of it, no schedule leads to what a search looks for, or there is no
--- warning about a table; 1 if the history departs, a search found a schedule, or there is a warning; 3 if
--- a text that is linted is no table; else the status of the fault
+-- the exit status: 0 if the run was shown, or a part of it, no schedule leads to what a search looks
+-- for, or there is no warning about a table; 1 if the history departs, a search found a schedule, or
+-- there is a warning; 3 if a text that is linted is no table; else the status of the fault
 abbrev pub status_of : End → ℕ
 status_of complete = 0
 status_of (in_part excerpt) = 0

@@ -48,7 +48,8 @@ pub data Ends (asked : Result Asked Unasked) (before : Ports) : End → Ports �
       → StepEnds form before ends after → Ends asked before ends after
   -- a history is explained
   of_check : {form : Form} {comments : Bool} {ends : End} {after : Ports}
-      → asked ≡ Ok (to_check form comments) → CheckEnds form comments before ends after → Ends asked before ends after
+      → asked ≡ Ok (to_check form comments) → CheckEnds form comments before ends after
+      → Ends asked before ends after
   -- the reason of an entry is shown
   of_why : {source : Source} {entry : ℕ} {ends : End} {after : Ports}
       → asked ≡ Ok (to_why source entry) → WhyEnds source entry before ends after

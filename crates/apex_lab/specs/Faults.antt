@@ -18,7 +18,7 @@ fault_of_showing (showing.Empty window) = Empty window
 -- the line that reports ill-formed words
 abbrev pub usage_line : List ℕ
 usage_line =
-    codes "apex_lab: usage: apex_lab svg|trace|lines|status|report|schedule [--schedule S|--until T], apex_lab search [--for WORD|--worst P], apex_lab lint|step|check, apex_lab why --entry N\n"
+    codes "apex_lab: usage: apex_lab svg|trace|vcd|lines|status|report|schedule [--schedule S|--until T], apex_lab search [--for WORD|--worst P], apex_lab lint|step|check, apex_lab why --entry N\n"
 
 -- the line of a fault that the program `apex` has too; ill-formed words have a line of this program
 abbrev pub common_line : CliFault → List ℕ

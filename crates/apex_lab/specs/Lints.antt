@@ -7,7 +7,7 @@ use Rattle.apex_history.specs.Ports.{AReadFails, AWriteFails, NoneFails, Ports}
 use Rattle.apex_check.specs.Ahead.{IsAhead}
 use Rattle.apex_console.specs.declared.CliFault.TheVariants.{Memory, Read, Write}
 use Rattle.apex_lint.specs.Reports.{IsReportOn}
-use Rattle.apex_lint.specs.WarningWords.{allowed_in}
+use Rattle.apex_warnings.specs.WarningWords.{allowed_in}
 use Rattle.apex_lint.specs.declared.Form.{Form}
 use Rattle.apex_lint.specs.declared.Form.TheVariants.{Json, Lines}
 use Rattle.apex_lint.specs.declared.Report.{Report}

@@ -6,7 +6,7 @@ use Rattle.apex_types.specs.Numbers.{at_least, at_most, number_of}
 use Rattle.apex_pace.specs.declared.paces.Pace.{Pace}
 use Rattle.apex_pace.specs.declared.paces.TheConstants.{USUAL_TURNS}
 use Rattle.apex_schedules.specs.Schedule.{positive_of}
-use Rattle.apex_lab.specs.declared.numbers.TheConstants.{MOST_STATES, USUAL_STATES}
+use Rattle.apex_lab.specs.declared.numbers.TheConstants.{MOST_JOBS, MOST_STATES, USUAL_STATES}
 
 -- the number of turns that a text says, and this one if there is no text
 abbrev pub number_in : ℕ → Option Text → Option ℕ
@@ -22,6 +22,11 @@ percent_in (Some text) = at_least 1 (at_most 100 (number_of text))
 abbrev pub room_in : Option Text → Option ℕ
 room_in None = Some USUAL_STATES
 room_in (Some text) = at_least 1 (at_most MOST_STATES (number_of text))
+
+-- the number of jobs that a text says, 1 to `MOST_JOBS`, and one if there is no text
+abbrev pub jobs_in : Option Text → Option ℕ
+jobs_in None = Some 1
+jobs_in (Some text) = at_least 1 (at_most MOST_JOBS (number_of text))
 
 -- the time that a text says, in ticks, 0 to 2^36
 abbrev pub time_of : Text → Option ℕ

@@ -6,7 +6,7 @@ use Rattle.apex_calls.specs.Catalogue.{Row, row_in, rows}
 use Rattle.apex_calls.specs.declared.Service.{Service}
 use Rattle.apex_pace.specs.declared.paces.Pace.{Pace}
 use Rattle.apex_answers.specs.Words.{fact_of}
-use Rattle.apex_lab.specs.Numbers.{pace_in, room_in}
+use Rattle.apex_lab.specs.Numbers.{jobs_in, pace_in, room_in}
 use Rattle.apex_lab.specs.Words.{SearchSaid}
 use Rattle.apex_lab.specs.declared.questions.Search.{Search}
 use Rattle.apex_lab.specs.declared.questions.Sought.{Sought}
@@ -45,14 +45,21 @@ sought_by (Some word) None process service =
 sought_by None None process service = about Facts process service
 sought_by _ _ _ _ = None
 
--- a search for this, at a pace, with room for this many states
-abbrev pub search_for : Sought → Pace → ℕ → Search
-search_for sought pace room = record { sought = sought; pace = pace; room = room }
+-- a search for this, at a pace, with room for this many states, by this many jobs
+abbrev pub search_for : Sought → Pace → ℕ → ℕ → Search
+search_for sought pace room jobs = record {
+  sought = sought;
+  pace = pace;
+  room = room;
+  jobs = jobs;
+}
 
 -- the search that texts ask for; none if one is ill-formed
 abbrev pub search_asked : SearchSaid → Option Search
 search_asked said =
     option_and_then (λ sought. option_and_then
-    (λ pace. option_map (search_for sought pace) (room_in said.states))
+    (λ pace. option_and_then
+    (λ room. option_map (search_for sought pace room) (jobs_in said.jobs))
+    (room_in said.states))
     (pace_in said.turns said.early))
     (sought_by said.fact said.worst said.process said.service)

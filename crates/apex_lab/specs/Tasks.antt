@@ -13,7 +13,7 @@ use Rattle.apex_views.specs.Showings.{Showing, Source, View, drawn, history, lis
 use Rattle.apex_lab.specs.Lints.{Lint, lint_asked, lint_said}
 use Rattle.apex_lab.specs.Numbers.{pace_in, time_of}
 use Rattle.apex_lab.specs.Questions.{search_asked}
-use Rattle.apex_lab.specs.Windows.{window_between}
+use Rattle.apex_lab.specs.Windows.{axis_in, window_between}
 use Rattle.apex_lab.specs.Words.{Given, Request, Shown, as_listing, as_svg, as_trace, by_history, by_pace, by_schedule, by_schedule_read, check_of, dump_of, lint_of, request_of, search_of, show_of, step_of, why_of}
 use Rattle.apex_lab.specs.declared.faults.LabFault.{LabFault}
 use Rattle.apex_lab.specs.declared.faults.LabFault.TheVariants.{Common, Empty, NoEntry, NoProcess, Schedule as BadText, StatesFull}
@@ -72,9 +72,11 @@ source_in by_schedule_read = Ok schedule_read
 source_in (by_pace until turns early) = or_unasked ill_formed (paced_source until turns early)
 source_in by_history = Ok history
 
--- how a run is shown; none if a bound is ill-formed
+-- how a run is shown; none if a bound or the word of an axis is ill-formed
 abbrev pub view_in : Shown → Option View
-view_in (as_svg first last) = option_map (λ window. drawn (svg window)) (window_between first last)
+view_in (as_svg first last axis) =
+    option_and_then (λ window. option_map (λ along. drawn (svg window along)) (axis_in axis))
+    (window_between first last)
 view_in as_trace = Some (drawn trace)
 view_in (as_listing listing) = Some (listed listing)
 

@@ -1,7 +1,9 @@
--- The window that texts say.
+-- The window and the axis of a picture, as texts say them.
 use Rattle.std.specs.Prelude.{ℕ, Option, Some, None, codes, drop, take, if◌then◌else◌, option_and_then, option_map}
 use Rattle.std.specs.Str.{bytes_eq}
 use Rattle.clap.specs.Words.{Text}
+use Rattle.apex_pictures.specs.declared.Axis.{Axis}
+use Rattle.apex_pictures.specs.declared.Axis.TheVariants as axis
 use Rattle.apex_schedules.specs.Schedule.{positive_of}
 use Rattle.apex_types.specs.declared.limits.TheConstants.{MOST_ENTRIES}
 use Rattle.apex_views.specs.declared.Bound.{Bound}
@@ -30,3 +32,14 @@ abbrev pub window_between : Option Text → Option Text → Option Window
 window_between first last =
     option_and_then (λ begin. option_map (window_of begin) (bound_in MOST_ENTRIES last))
     (bound_in 1 first)
+
+-- the axis of this word
+abbrev pub axis_of : Text → Option Axis
+axis_of word =
+    if bytes_eq word (codes "entries") then Some axis.Entries
+    else if bytes_eq word (codes "time") then Some axis.Time else None
+
+-- the axis that a text says, and that of the entries if there is no text
+abbrev pub axis_in : Option Text → Option Axis
+axis_in None = Some axis.Entries
+axis_in (Some word) = axis_of word

@@ -26,11 +26,13 @@ view_command name =
     (option_rule (codes "turns")))
     (option_rule (codes "early"))
 
--- `svg`, which has `[--from N] [--to M]` too
+-- `svg`, which has `[--from N] [--to M] [--by AXIS]` too
 abbrev pub svg : App
 svg =
-    with_rule (with_rule (view_command (codes "svg")) (option_rule (codes "from")))
-    (option_rule (codes "to"))
+    with_rule
+    (with_rule (with_rule (view_command (codes "svg")) (option_rule (codes "from")))
+    (option_rule (codes "to")))
+    (option_rule (codes "by"))
 
 -- the command of this name, with `[--json]` too
 abbrev pub json_view_command : Text → App
@@ -63,13 +65,15 @@ question_command =
     (option_rule (codes "process")))
     (option_rule (codes "service"))
 
--- with `[--turns K] [--early E] [--states N]` too
+-- with `[--turns K] [--early E] [--states N] [--jobs N]` too
 abbrev pub search_command : App
 search_command =
     with_rule
+    (with_rule
     (with_rule (with_rule question_command (option_rule (codes "turns")))
     (option_rule (codes "early")))
-    (option_rule (codes "states"))
+    (option_rule (codes "states")))
+    (option_rule (codes "jobs"))
 
 -- `lint [--json] [--name FILE] [--allow WORD,WORD]`
 abbrev pub lint_command : App
@@ -121,16 +125,16 @@ pub data Given : Type 0 where
 
 -- how a run is shown
 pub data Shown : Type 0 where
-  -- as SVG, with the texts of the first bound and of the last one, if they are given
-  as_svg : Option Text → Option Text → Shown
+  -- as SVG, with the texts of the first bound, of the last one and of the axis, if they are given
+  as_svg : Option Text → Option Text → Option Text → Shown
   -- as a trace
   as_trace : Shown
   -- as this listing
   as_listing : Listing → Shown
 
 -- what a search is for: the texts of a fact, of the process whose greatest response is asked for, of a
--- process, of a service, of the turns a tick, of the percentage and of the number of states, if they
--- are given
+-- process, of a service, of the turns a tick, of the percentage, of the number of states and of the
+-- number of jobs, if they are given
 pub record SearchSaid : Type 0 where
   pub fact : Option Text
   pub worst : Option Text
@@ -139,6 +143,7 @@ pub record SearchSaid : Type 0 where
   pub turns : Option Text
   pub early : Option Text
   pub states : Option Text
+  pub jobs : Option Text
 
 -- how a table is linted: whether the report is in JSON, and the texts of the table's name and of the
 -- warnings that are left out, if they are given
@@ -174,8 +179,9 @@ given_said source.History = by_history
 
 -- how a run is shown, of a value of the program
 abbrev pub shown_said : ViewWords → Shown
-shown_said (view.Svg first last) =
+shown_said (view.Svg first last axis) =
     as_svg (option_map (λ text. text.now) first) (option_map (λ text. text.now) last)
+    (option_map (λ text. text.now) axis)
 shown_said view.Trace = as_trace
 shown_said (view.Listing listing) = as_listing listing
 
@@ -189,6 +195,7 @@ search_said words = record {
   turns = option_map (λ text. text.now) words.turns;
   early = option_map (λ text. text.now) words.early;
   states = option_map (λ text. text.now) words.states;
+  jobs = option_map (λ text. text.now) words.jobs;
 }
 
 -- how a table is linted, of a value of the program
@@ -234,7 +241,9 @@ shown_in shown rows = option_map (λ given. show_of given shown) (given_in rows)
 
 -- how the SVG for the rows of a command is shown
 abbrev pub svg_in : List Row → Shown
-svg_in rows = as_svg (first_of (codes "from") rows) (first_of (codes "to") rows)
+svg_in rows =
+    as_svg (first_of (codes "from") rows) (first_of (codes "to") rows)
+    (first_of (codes "by") rows)
 
 -- the form of a listing, by the text of the flag
 abbrev pub form_of : Option Text → Form
@@ -268,6 +277,7 @@ search_in rows = record {
   turns = first_of (codes "turns") rows;
   early = first_of (codes "early") rows;
   states = first_of (codes "states") rows;
+  jobs = first_of (codes "jobs") rows;
 }
 
 -- how a table is linted, for the rows of a command

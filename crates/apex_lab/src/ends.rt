@@ -15,8 +15,8 @@ use apex_views::{excerpt_line, schedule_line, window_line};
 /// The end of the program if it meets no fault.
 #[derive(Drop)]
 pub enum Ending {
-    /// All was done: the run or the reason was shown, the history is legal, no schedule leads to what a search looks for, or there is no warning about
-    /// a table.
+    /// All was done: the run or the reason was shown, the history is legal, no schedule leads to what a
+    /// search looks for, or there is no warning about a table.
     Complete,
     /// This part of a run was shown, of which more was asked for.
     InPart(Excerpt),

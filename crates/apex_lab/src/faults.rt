@@ -17,7 +17,7 @@ use std::alloc::AllocError;
 
 /// The line that reports ill-formed words.
 pub const USAGE: &str =
-    "apex_lab: usage: apex_lab svg|trace|lines|status|report|schedule [--schedule S|--until T], apex_lab search [--for WORD|--worst P], apex_lab lint|step|check, apex_lab why --entry N\n";
+    "apex_lab: usage: apex_lab svg|trace|vcd|lines|status|report|schedule [--schedule S|--until T], apex_lab search [--for WORD|--worst P], apex_lab lint|step|check, apex_lab why --entry N\n";
 
 /// Room for the bytes of a line that reports a fault with a number.
 const NUMBER_ROOM: usize = 64;

@@ -10,7 +10,8 @@ use crate::faults::LabFault;
 use crate::words::LintWords;
 use apex_console::CliFault;
 use apex_history::{Counted, Sink, Source, read_all};
-use apex_lint::{Form, Verdict, allowed_in, report_on};
+use apex_lint::{Form, Verdict, report_on};
+use apex_warnings::allowed_in;
 use std::alloc::{AllocError, Global};
 use std::io::Write;
 

@@ -11,6 +11,7 @@ mod faults;
 mod linting;
 mod numbers;
 mod program;
+mod progress;
 mod questions;
 mod searching;
 mod stepping;
@@ -20,6 +21,7 @@ mod windows;
 mod words;
 
 use crate::program::serve;
+use crate::progress::Progress;
 use apex_console::given_words;
 use apex_history::Counted;
 use std::io;
@@ -29,7 +31,10 @@ fn main(rt: HostRuntime) -> ExitCode {
     let mut reader = Counted::new(rt.reader());
     let mut writer = Counted::new(io::writer(&rt));
     let mut error_writer = Counted::new(rt.stderr());
+    let mut progress = Progress::new(&rt, rt.stderr());
     let status = serve(
+        &rt,
+        &mut progress,
         rt.alloc(),
         given_words(&rt),
         &mut reader,

@@ -4,7 +4,7 @@ ghost use Rattle.apex_pace.specs.Laws.{IsPace};
 ghost use Rattle.apex_types.specs.Limits.{latest};
 ghost use Rattle.apex_types.specs.Numbers.{at_least, at_most, has_leading_zero, number_of};
 ghost use Rattle.apex_types.specs.declared.limits.TheConstants.{MOST_ENTRIES};
-ghost use Rattle.apex_lab.specs.Numbers.{number_in, pace_in, percent_in, room_in, time_of};
+ghost use Rattle.apex_lab.specs.Numbers.{jobs_in, number_in, pace_in, percent_in, room_in, time_of};
 
 use apex_pace::{Pace, USUAL_TURNS};
 use apex_schedules::read_positive;
@@ -18,6 +18,9 @@ const USUAL_STATES: u32 = 1_000_000;
 
 /// The greatest number of states for which a search may have room.
 const MOST_STATES: u32 = 4_294_967_295;
+
+/// The greatest number of jobs that a search may have.
+const MOST_JOBS: u32 = 64;
 
 fn has_leading_zero(word: &[u8]) -> bool
     ensures { result ≡ has_leading_zero word.now }
@@ -98,6 +101,20 @@ pub fn room_given(text: Option<&str>) -> Option<u32>
     };
     match number_at_most(text.as_bytes(), MOST_STATES) {
         Some(room) if 1 <= room => Some(room),
+        _ => None,
+    }
+}
+
+/// The number of jobs, 1 to [`MOST_JOBS`], that a text says, and one if there is no text. None if the
+/// text is ill-formed.
+pub fn jobs_given(text: Option<&str>) -> Option<u32>
+    ensures { result ≡ jobs_in (option_map (λ given. given.now) text.entry) }
+{
+    let Some(text) = text else {
+        return Some(1);
+    };
+    match number_at_most(text.as_bytes(), MOST_JOBS) {
+        Some(jobs) if 1 <= jobs => Some(jobs),
         _ => None,
     }
 }

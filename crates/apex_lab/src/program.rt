@@ -13,6 +13,7 @@ use crate::dumping::run_dump;
 use crate::ends::{Ending, status_of, tell};
 use crate::faults::LabFault;
 use crate::linting::run_lint;
+use crate::progress::Progress;
 use crate::searching::run_search;
 use crate::stepping::run_steps;
 use crate::tasks::{Task, task_asked};
@@ -21,6 +22,9 @@ use apex_console::CliFault;
 use apex_history::{Counted, Sink, Source};
 use apex_views::{ShowFault, Shown, show_run};
 use std::alloc::Global;
+use std::marker::Sync;
+use std::thread::Threads;
+use std::time::Clock;
 
 /// The end of the program with this outcome of a showing.
 fn ending_of(outcome: Result<Shown, ShowFault>) -> Result<Ending, LabFault>
@@ -35,7 +39,9 @@ fn ending_of(outcome: Result<Shown, ShowFault>) -> Result<Ending, LabFault>
 }
 
 /// Does what the words ask for.
-fn carry_out<R: Source, W: Sink>(
+fn carry_out<H: Threads + Sync + Clock, R: Source, W: Sink>(
+    host: &H,
+    progress: &mut Progress<'_, H>,
     alloc: Global,
     words: &[String],
     reader: &mut Counted<R>,
@@ -48,7 +54,7 @@ fn carry_out<R: Source, W: Sink>(
     let task = task_asked(alloc, words)?;
     match task {
         Task::Show(showing) => ending_of(show_run(alloc, &showing, reader, writer)),
-        Task::Search(search) => run_search(alloc, &search, reader, writer),
+        Task::Search(search) => run_search(host, progress, alloc, &search, reader, writer),
         Task::Lint(lint) => run_lint(alloc, &lint, reader, writer),
         Task::Step(form) => run_steps(alloc, form, reader, writer),
         Task::Check { form, comments } => run_check(alloc, form, comments, reader, writer),
@@ -58,8 +64,10 @@ fn carry_out<R: Source, W: Sink>(
 }
 
 /// The whole program: does what the words ask for, reports a fault or a departure on the error
-/// writer, and gives the exit status.
-pub fn serve<R: Source, W: Sink, E: Sink>(
+/// writer, and gives the exit status. A search shows its progress, and its threads are the host's.
+pub fn serve<H: Threads + Sync + Clock, R: Source, W: Sink, E: Sink>(
+    host: &H,
+    progress: &mut Progress<'_, H>,
     alloc: Global,
     words: Result<Vec<String>, CliFault>,
     reader: &mut Counted<R>,
@@ -76,7 +84,7 @@ pub fn serve<R: Source, W: Sink, E: Sink>(
         (λ fault. (ends ≡ fails (Common fault)) × (after ≡ before)) }
 {
     let outcome = match words {
-        Ok(words) => carry_out(alloc, words.as_slice(), reader, writer),
+        Ok(words) => carry_out(host, progress, alloc, words.as_slice(), reader, writer),
         Err(fault) => Err(LabFault::Common(fault)),
     };
     tell(&outcome, error_writer);

@@ -4,7 +4,7 @@ ghost use Rattle.apex_pace.specs.Laws.{IsPace};
 ghost use Rattle.apex_lab.specs.Questions.{name_of, process_said, search_asked, service_of, service_said, sought_by};
 ghost use Rattle.apex_lab.specs.Words.{search_said};
 
-use crate::numbers::{pace_given, room_given};
+use crate::numbers::{jobs_given, pace_given, room_given};
 use crate::words::SearchWords;
 use apex_answers::fact_of;
 use apex_calls::{Service, row_of_word};
@@ -30,6 +30,8 @@ pub struct Search {
     pub pace: Pace,
     /// The number of states for which there is room.
     pub room: u32,
+    /// The number of jobs that share the search. The answer does not depend on it.
+    pub jobs: u32,
 }
 
 /// The name that a text is.
@@ -104,5 +106,11 @@ pub fn search_asked(words: SearchWords<'_>) -> Option<Search>
     let sought = sought_by(words.fact, words.worst, words.process, words.service)?;
     let pace = pace_given(words.turns, words.early)?;
     let room = room_given(words.states)?;
-    Some(Search { sought, pace, room })
+    let jobs = jobs_given(words.jobs)?;
+    Some(Search {
+        sought,
+        pace,
+        room,
+        jobs,
+    })
 }

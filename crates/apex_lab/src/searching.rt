@@ -13,17 +13,23 @@ ghost use Rattle.apex_lab.specs.Searches.{HasFacts, HasGreatest, HasShortest, Is
 
 use crate::ends::Ending;
 use crate::faults::LabFault;
+use crate::progress::Progress;
 use crate::questions::{Search, Sought};
 use apex_answers::{SearchAnswer, WorstAnswer, answer_of, print_census, process_of, worst_of};
 use apex_calls::Service;
 use apex_console::{CliFault, table_for};
+use apex_explore::Watch;
 use apex_history::{Counted, Sink, Source, read_all};
+use apex_jobs::Jobs;
 use apex_pace::Pace;
 use apex_search::{Census, End, Fact, Facts, Question, TableSystem, Worst};
 use apex_table::Table;
 use apex_types::{Name, ProcessId};
 use std::alloc::Global;
 use std::io::Result as IoResult;
+use std::marker::Sync;
+use std::thread::Threads;
+use std::time::Clock;
 
 /// What a search says.
 #[derive(Drop)]
@@ -86,13 +92,15 @@ fn system_for(
 }
 
 /// What a search for one fact says.
-fn fact_answer(
+fn fact_answer<H: Threads + Sync, V: Watch>(
     alloc: Global,
     search: &Search,
     fact: Fact,
     process: Option<Name>,
     service: Option<Service>,
     text: &[u8],
+    jobs: &Jobs<'_, H>,
+    watch: &mut V,
 ) -> Result<SearchAnswer, LabFault>
     requires { IsPace search.now.pace }
     ensures ok { IfOk result (HasShortest search.now fact process service text.now) }
@@ -100,33 +108,37 @@ fn fact_answer(
 {
     let facts = Facts::one(fact);
     let system = system_for(alloc, search.pace, facts, process, service, text)?;
-    let answer = answer_of(alloc, &system, search.room, text)?;
+    let answer = answer_of(alloc, &system, search.room, text, jobs, watch)?;
     Ok(answer)
 }
 
 /// What a search for each fact says.
-fn facts_answer(
+fn facts_answer<H: Threads + Sync, V: Watch>(
     alloc: Global,
     search: &Search,
     process: Option<Name>,
     service: Option<Service>,
     text: &[u8],
+    jobs: &Jobs<'_, H>,
+    watch: &mut V,
 ) -> Result<Census, LabFault>
     requires { IsPace search.now.pace }
     ensures ok { IfOk result (HasFacts search.now process service text.now) }
     ensures err { IfErr result (IsRefusalOf process text.now) }
 {
     let system = system_for(alloc, search.pace, Facts::all(), process, service, text)?;
-    let census = system.census(alloc, search.room)?;
+    let census = system.census(alloc, search.room, jobs, watch)?;
     Ok(census)
 }
 
 /// What a search for the greatest response of a process says.
-fn response_answer(
+fn response_answer<H: Threads + Sync, V: Watch>(
     alloc: Global,
     search: &Search,
     name: Name,
     text: &[u8],
+    jobs: &Jobs<'_, H>,
+    watch: &mut V,
 ) -> Result<WorstAnswer, LabFault>
     requires { IsPace search.now.pace }
     ensures ok { IfOk result (HasGreatest search.now name text.now) }
@@ -140,7 +152,7 @@ fn response_answer(
         service: None,
     };
     let system = TableSystem::new(alloc, table, search.pace, question)?;
-    let answer = worst_of(alloc, system, process, search.room, text)?;
+    let answer = worst_of(alloc, system, process, search.room, text, jobs, watch)?;
     Ok(answer)
 }
 
@@ -148,22 +160,28 @@ fn response_answer(
 ///
 /// The errors in the order of the checks: the table's fault, `NoProcess` if the table has none of the
 /// name or number that is asked for; `Memory` whenever memory is refused.
-fn answer_for(alloc: Global, search: &Search, text: &[u8]) -> Result<LabAnswer, LabFault>
+fn answer_for<H: Threads + Sync, V: Watch>(
+    alloc: Global,
+    search: &Search,
+    text: &[u8],
+    jobs: &Jobs<'_, H>,
+    watch: &mut V,
+) -> Result<LabAnswer, LabFault>
     requires { IsPace search.now.pace }
     ensures ok { IfOk result (IsAnswerFor search.now text.now) }
     ensures err { IfErr result (IsRefusalOf (asked_name search.now.sought) text.now) }
 {
     match search.sought {
         Sought::Fact(fact, process, service) => {
-            let shortest = fact_answer(alloc, search, fact, process, service, text)?;
+            let shortest = fact_answer(alloc, search, fact, process, service, text, jobs, watch)?;
             Ok(LabAnswer::Fact(shortest))
         }
         Sought::Facts(process, service) => {
-            let census = facts_answer(alloc, search, process, service, text)?;
+            let census = facts_answer(alloc, search, process, service, text, jobs, watch)?;
             Ok(LabAnswer::Facts(census))
         }
         Sought::Response(name) => {
-            let greatest = response_answer(alloc, search, name, text)?;
+            let greatest = response_answer(alloc, search, name, text, jobs, watch)?;
             Ok(LabAnswer::Response(greatest))
         }
     }
@@ -240,8 +258,10 @@ impl LabAnswer {
 }
 
 /// Searches the schedules of a pace, for the table that the reader has, and writes the answer. It
-/// takes all its memory before it writes.
-pub fn run_search<R: Source, W: Sink>(
+/// takes all its memory before it writes. Its threads are the host's.
+pub fn run_search<H: Threads + Sync + Clock, R: Source, W: Sink>(
+    host: &H,
+    progress: &mut Progress<'_, H>,
     alloc: Global,
     search: &Search,
     reader: &mut Counted<R>,
@@ -252,7 +272,10 @@ pub fn run_search<R: Source, W: Sink>(
         (end_in result) (ports_of R.remaining W.contents reader.new writer.new) }
 {
     let text = read_all(alloc, reader)?;
-    let answer = answer_for(alloc, search, text.as_slice())?;
+    let jobs = Jobs::new(host, search.jobs);
+    let answer = answer_for(alloc, search, text.as_slice(), &jobs, progress);
+    progress.clear();
+    let answer = answer?;
     match answer.print(search.room, writer) {
         Ok(()) => answer.ending(search.room),
         Err(_) => Err(LabFault::Common(CliFault::Write)),

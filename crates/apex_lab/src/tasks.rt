@@ -10,7 +10,7 @@ use crate::linting::{Lint, lint_asked};
 use crate::numbers::{pace_given, read_time};
 use crate::questions::{Search, search_asked};
 use crate::whys::Why;
-use crate::windows::window_given;
+use crate::windows::{axis_given, window_given};
 use crate::words::{Request, SourceWords, ViewWords, request_in};
 use apex_console::CliFault;
 use apex_objects::Form;
@@ -74,14 +74,15 @@ fn read_source(alloc: Global, source: SourceWords<'_>) -> Result<RunSource, LabF
     }
 }
 
-/// How a run is shown. None if a bound is ill-formed.
+/// How a run is shown. None if a bound or the word of an axis is ill-formed.
 fn read_view(view: ViewWords<'_>) -> Option<View>
     ensures { option_map view_said result ≡ view_in (shown_said view.entry) }
 {
     match view {
-        ViewWords::Svg { first, last } => {
+        ViewWords::Svg { first, last, axis } => {
             let window = window_given(first, last)?;
-            Some(View::Picture(Picture::Svg(window)))
+            let axis = axis_given(axis)?;
+            Some(View::Picture(Picture::Svg(window, axis)))
         }
         ViewWords::Trace => Some(View::Picture(Picture::Trace)),
         ViewWords::Listing(listing) => Some(View::Listing(listing)),

@@ -1,8 +1,9 @@
-//! The window that words say.
+//! The window and the axis of a picture, as words say them.
 ghost use Rattle.std.specs.Prelude.{◌≡◌, option_map};
-ghost use Rattle.apex_lab.specs.Windows.{bound_in, bound_of, window_between};
+ghost use Rattle.apex_lab.specs.Windows.{axis_in, axis_of, bound_in, bound_of, window_between};
 
 use crate::numbers::read_time;
+use apex_pictures::Axis;
 use apex_schedules::read_positive;
 use apex_types::MOST_ENTRIES;
 use apex_views::{Bound, Window};
@@ -38,4 +39,25 @@ pub fn window_given(first: Option<&str>, last: Option<&str>) -> Option<Window>
     let first = bound_given(first, 1)?;
     let last = bound_given(last, MOST_ENTRIES)?;
     Some(Window { first, last })
+}
+
+/// The axis of this word.
+fn read_axis(word: &str) -> Option<Axis>
+    ensures { result ≡ axis_of word.now }
+{
+    match word {
+        "entries" => Some(Axis::Entries),
+        "time" => Some(Axis::Time),
+        _ => None,
+    }
+}
+
+/// The axis that a text says, and that of the entries without a text. None if it is no word of one.
+pub fn axis_given(text: Option<&str>) -> Option<Axis>
+    ensures { result ≡ axis_in (option_map (λ given. given.now) text.entry) }
+{
+    match text {
+        Some(text) => read_axis(text),
+        None => Some(Axis::Entries),
+    }
 }

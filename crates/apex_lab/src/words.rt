@@ -32,10 +32,12 @@ pub enum SourceWords<'a> {
 /// How a run is shown, by the words.
 #[derive(Clone, Copy)]
 pub enum ViewWords<'a> {
-    /// As SVG, with the texts of the first bound and of the last one, if they are given.
+    /// As SVG, with the texts of the first bound, of the last one and of the axis, if they are
+    /// given.
     Svg {
         first: Option<&'a str>,
         last: Option<&'a str>,
+        axis: Option<&'a str>,
     },
     /// As a trace.
     Trace,
@@ -60,6 +62,8 @@ pub struct SearchWords<'a> {
     pub early: Option<&'a str>,
     /// The number of states for which there is room, if it is given.
     pub states: Option<&'a str>,
+    /// The number of jobs, if it is given.
+    pub jobs: Option<&'a str>,
 }
 
 /// How a table is linted, by the options.
@@ -108,7 +112,8 @@ fn svg_command<'a>(alloc: Global) -> Result<Command<'a>, AllocError>
     ensures local { IfOk result (λ c. (fields_of c).has_globals ≡ false) }
 {
     let with_from = view_command(alloc, "svg")?.arg(option(alloc, "from"))?;
-    with_from.arg(option(alloc, "to"))
+    let with_to = with_from.arg(option(alloc, "to"))?;
+    with_to.arg(option(alloc, "by"))
 }
 
 /// The command of this name, with `--json` too.
@@ -158,7 +163,8 @@ fn search_command<'a>(alloc: Global) -> Result<Command<'a>, AllocError>
 {
     let with_turns = question_command(alloc)?.arg(option(alloc, "turns"))?;
     let with_early = with_turns.arg(option(alloc, "early"))?;
-    with_early.arg(option(alloc, "states"))
+    let with_states = with_early.arg(option(alloc, "states"))?;
+    with_states.arg(option(alloc, "jobs"))
 }
 
 /// The command `lint`.
@@ -217,9 +223,9 @@ fn command<'a>(alloc: Global) -> Result<Command<'a>, AllocError>
 
 /// What the words ask for: `svg`, `trace`, `lines`, `status`, `report` or `schedule`, with
 /// `--schedule S`, with `--until T [--turns K] [--early E]`, or with neither; `svg` also with
-/// `[--from N] [--to M]`, and `lines`, `status` and `report` with `[--json]`; or `search` with
-/// `[--for WORD] [--process P] [--service WORD] [--turns K] [--early E] [--states N]`, or with `--worst P`
-/// in place of the first three; or `lint` with
+/// `[--from N] [--to M] [--by AXIS]`, and `lines`, `status` and `report` with `[--json]`; or `search`
+/// with `[--for WORD] [--process P] [--service WORD] [--turns K] [--early E] [--states N] [--jobs N]`,
+/// or with `--worst P` in place of the first three; or `lint` with
 /// `[--json] [--name FILE] [--allow WORD,WORD]`; or `step` with `[--json]`;
 /// or `check` with `[--json] [--comments]`; or `why` with `--entry N` and a run as for `lines`; or
 /// `vcd` with a run as for `lines`. Other words are `Usage`.
@@ -284,6 +290,7 @@ fn svg_given<'a>(matches: &ArgMatches<'a>) -> ViewWords<'a>
     ViewWords::Svg {
         first: matches.get_str("from"),
         last: matches.get_str("to"),
+        axis: matches.get_str("by"),
     }
 }
 
@@ -335,6 +342,7 @@ fn search_given<'a>(matches: &ArgMatches<'a>) -> SearchWords<'a>
         turns: matches.get_str("turns"),
         early: matches.get_str("early"),
         states: matches.get_str("states"),
+        jobs: matches.get_str("jobs"),
     }
 }
 

@@ -1,4 +1,1 @@
-pub mod Further
 pub mod Lines
-pub mod Lists
-pub mod Refusals

@@ -1,16 +1,3 @@
--- The warnings of a table: what a table that is read can hardly mean (this profile).
+-- The report on a table's text (this profile).
 pub mod Terms
-pub mod Calls
-pub mod Acts
-pub mod Jobs
-pub mod Owning
-pub mod ProcessWarnings
-pub mod StepWarnings
-pub mod Objects
-pub mod Cores
-pub mod Warnings
-pub mod Texts
-pub mod Reasons
-pub mod WarningWords
-pub mod Remarks
 pub mod Reports

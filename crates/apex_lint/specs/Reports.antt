@@ -8,15 +8,10 @@ use Rattle.apex_table.specs.Reading.{table_of}
 use Rattle.apex_table.specs.declared.subject.Part.TheVariants as part
 use Rattle.apex_faults.specs.Locations.{IsLocationIn}
 use Rattle.apex_faults.specs.declared.Location.{Location}
-use Rattle.apex_lint.specs.Remarks.{Head, head, heads_by}
-use Rattle.apex_lint.specs.Terms.{Form, Part, Remark, Report, Severity, Subject, TableFault, Verdict}
-use Rattle.apex_lint.specs.declared.remarks.Severity.TheVariants as severity
+use Rattle.apex_remarks.specs.Remarks.{Head, head, heads_by, severity_word}
+use Rattle.apex_lint.specs.Terms.{Form, Part, Remark, Report, Subject, TableFault, Verdict}
 use Rattle.apex_lint.specs.declared.reports.Form.TheVariants.{Lines, Json}
 use Rattle.apex_lint.specs.declared.reports.Verdict.TheVariants.{Accepted, Warned, Refused}
-
-abbrev pub severity_word : Severity → List ℕ
-severity_word severity.Error = codes "error"
-severity_word severity.Warning = codes "warning"
 
 -- the number of an entry, unless the remark is about the section as a whole
 abbrev pub number_words : ℕ → List ℕ

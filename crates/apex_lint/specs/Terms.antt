@@ -1,24 +1,8 @@
 -- The terms in which the definitions of this crate speak.
-pub use Rattle.apex_types.specs.declared.calls.Call.{Call}
-pub use Rattle.apex_types.specs.declared.calls.Message.{Message}
-pub use Rattle.apex_types.specs.declared.calls.ObjectCall.{ObjectCall}
-pub use Rattle.apex_types.specs.declared.calls.Origin.{Origin}
-pub use Rattle.apex_types.specs.declared.calls.Timeout.{Timeout}
-pub use Rattle.apex_machine.specs.declared.holdings.Holding.{Holding}
-pub use Rattle.apex_machine.specs.declared.records.Attributes.{Attributes}
-pub use Rattle.apex_machine.specs.declared.records.Queue.{Queue}
-pub use Rattle.apex_table.specs.declared.fault.Place.{Place}
-pub use Rattle.apex_table.specs.declared.fault.Section.{Section}
 pub use Rattle.apex_table.specs.declared.fault.TableFault.{TableFault}
 pub use Rattle.apex_table.specs.declared.subject.Part.{Part}
 pub use Rattle.apex_table.specs.declared.subject.Subject.{Subject}
-pub use Rattle.apex_lint.specs.declared.acts.Act.{Act}
-pub use Rattle.apex_lint.specs.declared.objects.Group.{Group}
-pub use Rattle.apex_lint.specs.declared.process_warnings.ProcessWarning.{ProcessWarning}
-pub use Rattle.apex_lint.specs.declared.remarks.Remark.{Remark}
-pub use Rattle.apex_lint.specs.declared.remarks.Severity.{Severity}
+pub use Rattle.apex_remarks.specs.declared.remarks.Remark.{Remark}
 pub use Rattle.apex_lint.specs.declared.reports.Form.{Form}
 pub use Rattle.apex_lint.specs.declared.reports.Report.{Report}
 pub use Rattle.apex_lint.specs.declared.reports.Verdict.{Verdict}
-pub use Rattle.apex_lint.specs.declared.step_warnings.StepWarning.{StepWarning}
-pub use Rattle.apex_lint.specs.declared.warnings.Warning.{Warning}

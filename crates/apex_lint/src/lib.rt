@@ -1,28 +1,6 @@
-//! The warnings of a table: what a table that is read can hardly mean (this profile).
+//! The report on a table's text: a line or an object of JSON for each remark (this profile).
 #![tactic(auto)]
 
-mod acts;
-mod entries;
-mod found;
-mod objects;
-mod owning;
-mod process_warnings;
-mod reasons;
-mod remarks;
 mod reports;
-mod step_warnings;
-mod steps;
-mod texts;
-mod warning_words;
-mod warnings;
 
-pub use objects::Group;
-pub use process_warnings::ProcessWarning;
-pub use reasons::{
-    aperiodic_waits_are_refused, periodic_processes_are_not_suspended, unfit_messages_are_refused,
-};
-pub use remarks::{Remark, Severity};
 pub use reports::{Form, Report, Verdict, report_on, reports_have_a_line_for_each_remark};
-pub use step_warnings::StepWarning;
-pub use warning_words::allowed_in;
-pub use warnings::{Warning, lint};

@@ -3,13 +3,13 @@ ghost use Rattle.std.specs.Prelude.{◌≡◌, ◌+◌, ◌++◌, map, string_by
 ghost use Rattle.std.specs.List.{All};
 ghost use Rattle.apex_table.specs.Reading.{table_of};
 ghost use Rattle.apex_faults.specs.Locations.{IsLocationIn};
-ghost use Rattle.apex_lint.specs.Remarks.{head, heads_by};
+ghost use Rattle.apex_remarks.specs.Remarks.{head, heads_by};
 ghost use Rattle.apex_lint.specs.Terms.{Remark};
 ghost use Rattle.apex_lint.specs.Reports.{HasALineForEach, IsReportOn, column_member, kind_members, line_member, line_text, lines_text, location_members, location_text, message, middle_members, more_objects_text, next_object_text, object_end, object_front, object_text, objects_text, part_members, place_words, plain_line, quoted, remark_text, report_text, shown_byte, subject_members, verdict_by, verdict_on, mark_text, marks_text, severity_text, said_text, code_text, told_text, step_member, word_member, first_members};
 
-use crate::remarks::{Remark, remarks_on_faults, remarks_on_table};
 use apex_faults::Location;
 use apex_json::put_json;
+use apex_remarks::{Remark, remarks_on_faults, remarks_on_table};
 use apex_table::{Part, Subject, TableFault, read_table};
 use std::alloc::{AllocError, Global};
 

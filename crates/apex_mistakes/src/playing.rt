@@ -1,6 +1,7 @@
 //! The comparison of the cases with the reports on their tables.
 use crate::cases::Case;
-use apex_lint::{Form, Report, Verdict, allowed_in, report_on};
+use apex_lint::{Form, Report, Verdict, report_on};
+use apex_warnings::allowed_in;
 use std::alloc::{AllocError, Global};
 use std::str;
 

@@ -3,6 +3,8 @@ pub mod ReadBack
 pub mod Said
 pub mod NextInstants
 pub mod Pictured
+pub mod Times
+pub mod Apart
 pub mod Drawn
 pub mod Order
 pub mod Columns

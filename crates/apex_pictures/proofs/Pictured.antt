@@ -54,7 +54,7 @@ event_adds table machine (Turn core) = (_, _, refl)
 event_adds table machine (Tick n) = (_, _, refl)
 
 -- the time of the entry is that of the roster after it
-event_timed : (table : Table) (machine : Machine) (event : Event)
+pub event_timed : (table : Table) (machine : Machine) (event : Event)
     → (entry : Entry) × (happen table machine event).history ≡ machine.history ++ entry ∷ []
     × (happen table machine event).roster.now ≡ entry.now
 unfolding turn tick

@@ -12,6 +12,9 @@ one = decimal_digit 1 (omega arith)
 two : decimal 2 ≡ codes "2"
 two = decimal_digit 2 (omega arith)
 
+three : decimal 3 ≡ codes "3"
+three = decimal_digit 3 (omega arith)
+
 -- the digit of a group in a text
 in_front : (front back digit : List ℕ) (group : ℕ) → decimal group ≡ digit
     → front ++ digit ++ back ≡ front ++ decimal group ++ back
@@ -21,21 +24,31 @@ pub end_front_first : (group : ℕ) → group ≡ 1 → codes ",\n{\"ph\":\"E\",
 end_front_first group is =
     in_front (codes ",\n{\"ph\":\"E\",\"pid\":") (codes ",\"tid\":") (codes "1") group (ap decimal is ∙ one)
 
-pub end_front_other : (group : ℕ) → IsGroup group → (group ≡ 1 → ⊥)
-    → codes ",\n{\"ph\":\"E\",\"pid\":2,\"tid\":" ≡ end_front group
-end_front_other group (inl first) other = absurd (other first)
-end_front_other group (inr is) other =
+pub end_front_second : (group : ℕ) → group ≡ 2 → codes ",\n{\"ph\":\"E\",\"pid\":2,\"tid\":" ≡ end_front group
+end_front_second group is =
     in_front (codes ",\n{\"ph\":\"E\",\"pid\":") (codes ",\"tid\":") (codes "2") group (ap decimal is ∙ two)
+
+pub end_front_third : (group : ℕ) → IsGroup group → (group ≡ 1 → ⊥) → (group ≡ 2 → ⊥)
+    → codes ",\n{\"ph\":\"E\",\"pid\":3,\"tid\":" ≡ end_front group
+end_front_third group (inl first) not_first not_second = absurd (not_first first)
+end_front_third group (inr (inl second)) not_first not_second = absurd (not_second second)
+end_front_third group (inr (inr is)) not_first not_second =
+    in_front (codes ",\n{\"ph\":\"E\",\"pid\":") (codes ",\"tid\":") (codes "3") group (ap decimal is ∙ three)
 
 pub begin_front_first : (group : ℕ) → group ≡ 1 → codes ",\n{\"ph\":\"B\",\"pid\":1,\"tid\":" ≡ begin_front group
 begin_front_first group is =
     in_front (codes ",\n{\"ph\":\"B\",\"pid\":") (codes ",\"tid\":") (codes "1") group (ap decimal is ∙ one)
 
-pub begin_front_other : (group : ℕ) → IsGroup group → (group ≡ 1 → ⊥)
-    → codes ",\n{\"ph\":\"B\",\"pid\":2,\"tid\":" ≡ begin_front group
-begin_front_other group (inl first) other = absurd (other first)
-begin_front_other group (inr is) other =
+pub begin_front_second : (group : ℕ) → group ≡ 2 → codes ",\n{\"ph\":\"B\",\"pid\":2,\"tid\":" ≡ begin_front group
+begin_front_second group is =
     in_front (codes ",\n{\"ph\":\"B\",\"pid\":") (codes ",\"tid\":") (codes "2") group (ap decimal is ∙ two)
+
+pub begin_front_third : (group : ℕ) → IsGroup group → (group ≡ 1 → ⊥) → (group ≡ 2 → ⊥)
+    → codes ",\n{\"ph\":\"B\",\"pid\":3,\"tid\":" ≡ begin_front group
+begin_front_third group (inl first) not_first not_second = absurd (not_first first)
+begin_front_third group (inr (inl second)) not_first not_second = absurd (not_second second)
+begin_front_third group (inr (inr is)) not_first not_second =
+    in_front (codes ",\n{\"ph\":\"B\",\"pid\":") (codes ",\"tid\":") (codes "3") group (ap decimal is ∙ three)
 
 -- three texts behind another one
 behind : (text a b c after first second : List ℕ) → first ≡ text ++ a → second ≡ first ++ b → after ≡ second ++ c

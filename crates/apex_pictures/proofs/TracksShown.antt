@@ -4,14 +4,13 @@ use Rattle.std.proofs.lemmas.List.{length-map, map-append}
 use Rattle.std.specs.Prelude.{map, flat_map, length, slice_index_or, codes}
 use Rattle.apex_machine.specs.text.Listing.{texts_of}
 use Rattle.apex_machine.specs.processes.Roster.{Roster}
-use Rattle.apex_machine.specs.processes.Running.{process_state}
 use Rattle.apex_machine.specs.table.Table.{Table}
 use Rattle.apex_types.specs.declared.limits.TheConstants.{MOST_CORES}
-use Rattle.apex_pictures.specs.Counters.{counters_text}
+use Rattle.apex_pictures.specs.Trace.{objects_text}
 use Rattle.apex_pictures.specs.Counts.{Counts, HasCounts}
 use Rattle.apex_pictures.specs.Moments.{Shown, cell_of, moment_of, no_cell, none_shown, running_in}
 use Rattle.apex_pictures.specs.Places.{of_places}
-use Rattle.apex_pictures.specs.Terms.{Cell, Entry, State}
+use Rattle.apex_pictures.specs.Terms.{Cell, Entry}
 use Rattle.apex_pictures.specs.Trace as trace
 use Rattle.apex_pictures.specs.Tracks.{Fits, Follows, HasTracks, bare, bare_cell, bare_cells, cell_on, no_track, track_of}
 use Rattle.apex_pictures.specs.declared.styles.Style.{Style}
@@ -27,10 +26,10 @@ map_places f g (suc n) =
 
 -- the tracks of all processes show what a trace shows of their cells
 tracks_shown : (roster : Roster) (n : ℕ) (tracks : List Track) → tracks ≡ of_places (track_of roster) n
-    → map cell_on tracks ≡ map (λ (c : Cell). bare_cell c.state) (of_places (cell_of roster) n)
+    → map cell_on tracks ≡ map bare_cell (of_places (cell_of roster) n)
 tracks_shown roster n tracks is =
     ap (map cell_on) is ∙ map_places cell_on (track_of roster) n
-    ∙ sym (map_places (λ (c : Cell). bare_cell c.state) (cell_of roster) n)
+    ∙ sym (map_places bare_cell (cell_of roster) n)
 
 -- a moment of these
 abbrev pub shown_of : List Cell → List (Option ℕ) → Counts → Shown
@@ -42,35 +41,28 @@ pub tracks_same : (roster : Roster) (tracks : List Track) (running : List (Optio
     → shown_of (map cell_on tracks) running counts ≡ bare (moment_of roster counts)
 tracks_same roster tracks running counts is runs =
     ap (λ cells. shown_of cells running counts) (tracks_shown roster (length roster.records) tracks is)
-    ∙ ap (λ all. shown_of (map (λ (c : Cell). bare_cell c.state) (of_places (cell_of roster) (length roster.records))) all counts) runs
+    ∙ ap (λ all. shown_of (map bare_cell (of_places (cell_of roster) (length roster.records))) all counts) runs
 
--- the state on a track
-state_on : (tracks : List Track) (p : ℕ)
-    → (slice_index_or (map cell_on tracks) p no_cell).state ≡ (slice_index_or tracks p no_track).state
-state_on [] p = refl
-state_on (track ∷ tracks) zero = refl
-state_on (track ∷ tracks) (suc p) = state_on tracks p
+-- what a track shows is the cell
+pub track_seen : (tracks : List Track) (p : ℕ)
+    → cell_on (slice_index_or tracks p no_track) ≡ slice_index_or (map cell_on tracks) p no_cell
+track_seen [] p = refl
+track_seen (track ∷ tracks) zero = refl
+track_seen (track ∷ tracks) (suc p) = track_seen tracks p
 
--- the state on a track is that in the cell that the track shows
-pub state_seen : (tracks : List Track) (cells : List Cell) (p : ℕ) → map cell_on tracks ≡ cells
-    → (slice_index_or tracks p no_track).state ≡ (slice_index_or cells p no_cell).state
-state_seen tracks cells p is =
-    sym (state_on tracks p) ∙ ap (λ (all : List Cell). (slice_index_or all p no_cell).state) is
+-- the cell of a process, without mutexes
+cell_bare : (cells : List Cell) (p : ℕ)
+    → slice_index_or (map bare_cell cells) p no_cell ≡ bare_cell (slice_index_or cells p no_cell)
+cell_bare [] p = refl
+cell_bare (cell ∷ cells) zero = refl
+cell_bare (cell ∷ cells) (suc p) = cell_bare cells p
 
--- the state of a process in a cell
-state_bare : (cells : List Cell) (p : ℕ)
-    → (slice_index_or (map (λ (c : Cell). bare_cell c.state) cells) p no_cell).state
-    ≡ (slice_index_or cells p no_cell).state
-state_bare [] p = refl
-state_bare (cell ∷ cells) zero = refl
-state_bare (cell ∷ cells) (suc p) = state_bare cells p
-
--- the state of a process on the track after an entry
-pub state_now : (roster : Roster) (p : ℕ) → p < length roster.records
-    → process_state roster p ≡ (slice_index_or (bare_cells roster) p no_cell).state
-state_now roster p within =
-    sym (state_bare (of_places (cell_of roster) (length roster.records)) p
-    ∙ ap (λ (c : Cell). c.state) (place_of (cell_of roster) (length roster.records) p no_cell within))
+-- what the track of a process shows after an entry
+pub track_now : (roster : Roster) (p : ℕ) → p < length roster.records
+    → cell_on (track_of roster p) ≡ slice_index_or (bare_cells roster) p no_cell
+track_now roster p within =
+    sym (cell_bare (of_places (cell_of roster) (length roster.records)) p
+    ∙ ap bare_cell (place_of (cell_of roster) (length roster.records) p no_cell within))
 
 -- texts that are the same one by one
 texts_same : (f g : ℕ → List ℕ) (n : ℕ) → ((i : ℕ) → f i ≡ g i) → texts_of f n ≡ texts_of g n
@@ -78,34 +70,44 @@ texts_same f g zero same = refl
 texts_same f g (suc n) same =
     ap (λ l. l ++ f n) (texts_same f g n same) ∙ ap (λ l. texts_of g n ++ l) (same n)
 
-process_same : (time now : ℕ) (before after : Shown) (p : ℕ)
-    → trace.process_at time now (bare before) (bare after) p ≡ trace.process_at time now before after p
-process_same time now before after p =
-    ap (λ (s : State). trace.process_text (trace.process_spot p time) now s (trace.state_at (bare after) p))
-    (state_bare before.cells p)
-    ∙ ap (λ (s : State). trace.process_text (trace.process_spot p time) now (trace.state_at before p) s)
-    (state_bare after.cells p)
+-- the changes on the track of a process, by what the tracks show
+pub process_seen : (table : Table) (time now p : ℕ) (before after old new : Cell) (text whole : List ℕ)
+    → before ≡ old → after ≡ new
+    → whole ≡ text ++ trace.process_text table (trace.process_spot p time) now before after
+    → whole ≡ text ++ trace.process_text table (trace.process_spot p time) now old new
+process_seen table time now p before after old new text whole was is put =
+    put ∙ ap (λ (c : Cell). text ++ trace.process_text table (trace.process_spot p time) now c after) was
+    ∙ ap (λ (c : Cell). text ++ trace.process_text table (trace.process_spot p time) now old c) is
+
+process_same : (table : Table) (time now : ℕ) (before after : Shown) (p : ℕ)
+    → trace.process_at table time now (bare before) (bare after) p ≡ trace.process_at table time now before after p
+process_same table time now before after p =
+    ap (λ (c : Cell). trace.process_text table (trace.process_spot p time) now c (trace.cell_at (bare after) p))
+    (cell_bare before.cells p)
+    ∙ ap (λ (c : Cell). trace.process_text table (trace.process_spot p time) now (trace.cell_at before p) c)
+    (cell_bare after.cells p)
 
 -- the changes on all tracks
 changes_same : (table : Table) (time now : ℕ) (before after : Shown)
     → trace.changes_text table time now (bare before) (bare after) ≡ trace.changes_text table time now before after
 changes_same table time now before after =
     ap (λ l. texts_of (trace.core_at table time now before after) table.cores ++ l)
-    (texts_same (trace.process_at time now (bare before) (bare after)) (trace.process_at time now before after)
-    (length table.processes) (process_same time now before after))
+    (texts_same (trace.process_at table time now (bare before) (bare after)) (trace.process_at table time now before after)
+    (length table.processes) (process_same table time now before after))
 
 -- the text of a column
 pub column_same : (table : Table) (time : ℕ) (before : Shown) (entry : Entry) (after : Shown)
     → trace.column_text table time (bare before) entry (bare after) ≡ trace.column_text table time before entry after
 column_same table time before entry after =
-    ap (λ l. l ++ counters_text table time before.counts after.counts
+    ap (λ l. l ++ objects_text table time entry.now before.counts after.counts
     ++ flat_map (trace.marked_text time entry.now) entry.notices)
     (changes_same table time entry.now before after)
 
 -- what comes after the columns
 pub foot_same : (table : Table) (time now : ℕ) (last : Shown)
     → trace.foot_text table time now (bare last) ≡ trace.foot_text table time now last
-foot_same table time now last = ap (λ l. l ++ codes "\n]}\n") (changes_same table time now last none_shown)
+foot_same table time now last =
+    ap (λ l. l ++ trace.mutexes_text table time now last.counts.owners [] ++ codes "\n]}\n") (changes_same table time now last none_shown)
 
 -- the tracks of the moment follow it
 pub follows : (style : Style) (tracks shown : Shown) → tracks ≡ bare shown → Follows style tracks shown
@@ -117,7 +119,7 @@ pub follow_many : (style : Style) (tracks shown : Shown) (n : ℕ) → Follows s
     → HasTracks style tracks n
 follow_many (Svg frame) tracks shown n follows many = tt
 follow_many Trace tracks shown n follows many =
-    ap (λ (s : Shown). length s.cells) follows ∙ length-map shown.cells (λ (c : Cell). bare_cell c.state) ∙ many
+    ap (λ (s : Shown). length s.cells) follows ∙ length-map shown.cells bare_cell ∙ many
 
 -- tracks that follow a moment have the moment's counts and cores
 pub follow_fits : (style : Style) (tracks shown : Shown) (table : Table) → Follows style tracks shown → HasCounts shown.counts table
@@ -126,15 +128,15 @@ follow_fits (Svg frame) tracks shown table follows counts cores = tt
 follow_fits Trace tracks shown table follows counts cores =
     (subst (λ (s : Shown). HasCounts s.counts table) (sym follows) counts, ap (λ (s : Shown). length s.running) follows ∙ cores)
 
--- the changes, the counters and the marks of a column, one behind the other
+-- the changes, those of the objects and the marks of a column, one behind the other
 pub column_whole : (table : Table) (time : ℕ) (before : Shown) (entry : Entry) (after : Shown) (text one two whole : List ℕ)
     → one ≡ text ++ trace.changes_text table time entry.now before after
-    → two ≡ one ++ counters_text table time before.counts after.counts
+    → two ≡ one ++ objects_text table time entry.now before.counts after.counts
     → whole ≡ two ++ flat_map (trace.marked_text time entry.now) entry.notices
     → whole ≡ text ++ trace.column_text table time before entry after
-column_whole table time before entry after text one two whole changes counters marks =
+column_whole table time before entry after text one two whole changes objects marks =
     let changed = trace.changes_text table time entry.now before after in
-    let counted = counters_text table time before.counts after.counts in
+    let counted = objects_text table time entry.now before.counts after.counts in
     let marked = flat_map (trace.marked_text time entry.now) entry.notices in
-    marks ∙ ap (λ l. l ++ marked) (counters ∙ ap (λ l. l ++ counted) changes)
+    marks ∙ ap (λ l. l ++ marked) (objects ∙ ap (λ l. l ++ counted) changes)
     ∙ ap (λ l. l ++ marked) (append_assoc text changed counted) ∙ append_assoc text (changed ++ counted) marked

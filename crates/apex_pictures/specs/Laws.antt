@@ -1,30 +1,39 @@
 -- What the columns of a picture say.
-use Rattle.std.specs.Prelude.{◌≡◌, ◌+◌, ◌*◌, ◌<◌, ℕ, List, Some, None, length, slice_get, slice_index_or, take}
+use Rattle.std.specs.Prelude.{◌≡◌, ◌+◌, ◌-◌, ◌*◌, ◌<◌, ◌≤◌, ℕ, List, Some, None, length, slice_get, slice_index_or, take}
 use Rattle.apex_types.specs.declared.limits.TheConstants.{MOST_CORES}
 use Rattle.apex_machine.specs.Machine.{Machine, accept, objects_after, opening, run}
+use Rattle.apex_machine.specs.processes.Owners.{owner}
 use Rattle.apex_machine.specs.processes.Roster.{Roster, record_at}
 use Rattle.apex_machine.specs.processes.Running.{chosen, process_state}
 use Rattle.apex_machine.specs.table.Table.{IsLawful, Table}
-use Rattle.apex_pictures.specs.Counts.{Counts, content_of, value_of}
+use Rattle.apex_pictures.specs.Axes.{place_of, time_of}
+use Rattle.apex_pictures.specs.Counts.{Counts, content_of, displayed_on, raised_of, value_of}
 use Rattle.apex_pictures.specs.Instants.{hundredths, instant_after}
 use Rattle.apex_pictures.specs.Moments.{Column, no_cell, picture}
 use Rattle.apex_pictures.specs.Terms.{Cell, Entry, Event}
+use Rattle.apex_pictures.specs.declared.axes.Axis.{Axis}
+use Rattle.apex_pictures.specs.declared.axes.Axis.TheVariants.{Time}
+use Rattle.apex_pictures.specs.declared.axes.TheConstants.{COLUMN, MOST_ROOM, TICK}
 
 -- the cell of process p in a column
 abbrev pub cell_in : Column → ℕ → Cell
 cell_in column p = slice_index_or column.after.cells p no_cell
 
--- the counts are those after these entries: the value of each semaphore, and the number of messages in each
--- buffer
+-- the counts are those after these entries: the value of each semaphore, the number of messages in each buffer
+-- and on each blackboard, and whether each event flag is up
 pub record CountsAll (table : Table) (done : List Entry) (counts : Counts) : Type 0 where
   pub values : (s : ℕ) → s < length table.semaphores
       → slice_get counts.values s ≡ Some (value_of (objects_after table done) s)
   pub contents : (b : ℕ) → b < length table.buffers
       → slice_get counts.contents b ≡ Some (content_of (objects_after table done) b)
+  pub displays : (b : ℕ) → b < length table.blackboards
+      → slice_get counts.displays b ≡ Some (displayed_on (objects_after table done) b)
+  pub flags : (e : ℕ) → e < length table.event_flags
+      → slice_get counts.flags e ≡ Some (raised_of (objects_after table done) e)
 
 -- Column k has entry k of the machine's history, and what holds in the roster after that entry: the state of
--- each process, what it waits for and owns, and the process that each core runs. It has the counts of the
--- objects before the entry and after it, and the instant after it.
+-- each process, what it waits for and owns, the process that each core runs, and the owner of each mutex. It has
+-- the counts of the objects before the entry and after it, and the instant after it.
 pub record Says (table : Table) (machine : Machine) (k : ℕ) (column : Column) : Type 0 where
   pub entry : slice_get machine.history k ≡ Some column.entry
   pub instant : column.instant ≡ instant_after (take (k + 1) machine.history)
@@ -38,6 +47,8 @@ pub record Says (table : Table) (machine : Machine) (k : ℕ) (column : Column) 
       → (cell_in column p).owned ≡ (record_at roster p).owned
   pub running : (core : ℕ) → core < MOST_CORES
       → slice_index_or column.after.running core None ≡ chosen roster core
+  pub owners : (m : ℕ) → m < length table.mutexes
+      → slice_get column.after.counts.owners m ≡ Some (owner roster m)
   pub counts_after : CountsAll table (take (k + 1) machine.history) column.after.counts
   pub counts_before : CountsAll table (take k machine.history) column.before.counts
 
@@ -63,3 +74,30 @@ pub record AreInOrder : Type 0 where
   pub ticks : (table : Table) → IsLawful table → (events : List Event)
       → hundredths (instant_after (run table (opening table) events).history)
       < 100000 * ((instant_after (run table (opening table) events).history).now + 1)
+
+-- the history of a run
+abbrev pub history_of : Table → List Event → List Entry
+history_of table events = (run table (opening table) events).history
+
+-- In a picture of the entries from the first to the last of a run, along either axis: the column of
+-- the next entry begins at least a column's width behind that of an entry, and right there if no tick
+-- is between them; and all of them have room within the width of as many columns and `MOST_ROOM`
+-- pixels. Along an axis of time each tick between two entries has `TICK` pixels, if there is room for
+-- all ticks from the first entry to the last.
+pub record AreApart (axis : Axis) (history : List Entry) (first last n : ℕ) : Type 0 where
+  pub apart : place_of axis history first last n + COLUMN
+      ≤ place_of axis history first last (n + 1)
+  pub beside : time_of history (n + 1) ≡ time_of history n
+      → place_of axis history first last (n + 1) ≡ place_of axis history first last n + COLUMN
+  pub within : place_of axis history first last n ≤ COLUMN * (n - first) + MOST_ROOM
+  pub wider : axis ≡ Time
+      → TICK * (time_of history last - time_of history first) ≤ MOST_ROOM
+      → place_of axis history first last (n + 1)
+      ≡ place_of axis history first last n + COLUMN
+      + TICK * (time_of history (n + 1) - time_of history n)
+
+-- so are the columns of all runs
+abbrev pub ColumnsAreApart : Type 0
+ColumnsAreApart = (axis : Axis) (table : Table) → IsLawful table → (events : List Event)
+    (first last n : ℕ) → first ≤ n → n < last → last ≤ length (history_of table events)
+    → AreApart axis (history_of table events) first last n

@@ -2,11 +2,13 @@ pub mod Excerpts
 pub mod Terms
 pub mod Texts
 pub mod Places
+pub mod Axes
 pub mod Counts
 pub mod Instants
 pub mod Moments
 pub mod Svg
 pub mod Counters
+pub mod Waits
 pub mod Trace
 pub mod Stamps
 pub mod Tracks

@@ -1,6 +1,6 @@
 -- A picture as SVG. The places of rows and columns are the frame's; their contents are the
 -- columns'.
-use Rattle.std.specs.Prelude.{ℕ, ◌+◌, ◌-◌, ◌*◌, Bool, false, List, [], ◌∷◌, ◌++◌, ◌==◌, ◌&&◌, ◌||◌, nat_le, nat_lt, length, Option, None, Some, codes, decimal, flat_map, slice_index_or, if◌then◌else◌}
+use Rattle.std.specs.Prelude.{ℕ, ◌+◌, ◌-◌, ◌*◌, Bool, false, List, [], ◌∷◌, ◌++◌, ◌==◌, ◌&&◌, ◌||◌, nat_le, nat_lt, length, Option, None, Some, codes, decimal, flat_map, slice_index_or, take, if◌then◌else◌}
 use Rattle.apex_machine.specs.text.Texts.{id_text, process_name}
 use Rattle.apex_calls.specs.Lines.{asked_text, line_of, reply_text}
 use Rattle.apex_machine.specs.text.Listing.{texts_of}
@@ -17,6 +17,7 @@ use Rattle.apex_pictures.specs.Texts.{xml_text}
 use Rattle.apex_pictures.specs.declared.excerpts.Excerpt.{Excerpt}
 use Rattle.apex_pictures.specs.declared.frames.Frame.{Frame}
 use Rattle.apex_pictures.specs.declared.marks.Mark.{Mark}
+use Rattle.apex_pictures.specs.declared.svg.TheConstants.{MOST_CALL}
 
 -- texts one behind the other
 abbrev pub texts : List (List ℕ) → List ℕ
@@ -25,6 +26,19 @@ texts parts = flat_map (λ part. part) parts
 -- the place of the row of a process
 abbrev pub row_of : Frame → ℕ → ℕ
 row_of frame p = slice_index_or frame.rows.items p 0
+
+-- the place of the column behind n others, from the first column
+abbrev pub column_at : Frame → ℕ → ℕ
+column_at frame n = slice_index_or frame.places.items n frame.behind
+
+-- the place of the column of the entry of this number
+abbrev pub column_place : Frame → ℕ → ℕ
+column_place frame number = frame.left + column_at frame (number - frame.first)
+
+-- the width of the column of the entry of this number, up to the next one
+abbrev pub column_width : Frame → ℕ → ℕ
+column_width frame number =
+    column_at frame (number - frame.first + 1) - column_at frame (number - frame.first)
 
 -- the place of the heading of a core
 abbrev pub heading_of : Frame → ℕ → ℕ
@@ -92,14 +106,20 @@ said_line table entry =
     asked_text table entry.call entry.reply ++ codes " -> " ++ reply_text table entry.reply
     ++ codes "\n"
 
--- the same as XML shows it
+-- a line, or its first `MOST_CALL` bytes and `…` if it is longer, as XML shows it
+abbrev pub cut_text : List ℕ → List ℕ
+cut_text line =
+    if nat_le (length line) MOST_CALL then xml_text line
+    else xml_text (take MOST_CALL line) ++ codes "&#8230;"
+
+-- the call and the reply above a column
 abbrev pub said_text : Table → Entry → List ℕ
-said_text table entry = xml_text (said_line table entry)
+said_text table entry = cut_text (said_line table entry)
 
 -- the head of the text above a column, with its tooltip
 unfoldable pub title_text : Frame → List ℕ → List ℕ
 title_text frame line = texts (
-    codes "<text class='call' transform='translate(15," ∷ decimal frame.top
+    codes "<text class='call' transform='translate(19," ∷ decimal frame.top
     ∷ codes ") rotate(-60)'><title>" ∷ xml_text line ∷ codes "</title>" ∷ [])
 
 -- the end of a call, of a cell and of a column
@@ -127,39 +147,42 @@ abbrev pub mutex_text : Holding → List ℕ
 mutex_text holding = codes " mutex:" ++ id_text holding.mutex
 
 -- the bar below the cell of an owner of mutexes, up to the mutexes
-unfoldable pub bar_text : Frame → ℕ → List ℕ
-bar_text frame p = texts (
+unfoldable pub bar_text : Frame → ℕ → ℕ → List ℕ
+bar_text frame width p = texts (
     codes "<rect class='owns' y='" ∷ decimal (row_of frame p + 15)
-    ∷ codes "' width='24' height='3'><title>owns" ∷ [])
+    ∷ codes "' width='" ∷ decimal width ∷ codes "' height='3'><title>owns" ∷ [])
 
 -- the bar of a process that owns mutexes: its tooltip has all of them; no bar, if it owns none
-abbrev pub owns_part : Frame → ℕ → List Holding → List ℕ
-owns_part frame p [] = []
-owns_part frame p (first ∷ others) =
-    bar_text frame p ++ flat_map mutex_text (first ∷ others) ++ cell_end
+abbrev pub owns_part : Frame → ℕ → ℕ → List Holding → List ℕ
+owns_part frame width p [] = []
+owns_part frame width p (first ∷ others) =
+    bar_text frame width p ++ flat_map mutex_text (first ∷ others) ++ cell_end
 
--- a cell, up to the wait of its process: its class is the state, and its tooltip has id, name and
--- state
-unfoldable pub cell_part : Table → Frame → ℕ → Cell → List ℕ
-cell_part table frame p cell = texts (
+-- a cell of this width, up to the wait of its process: its class is the state, and its tooltip has id,
+-- name and state
+unfoldable pub cell_part : Table → Frame → ℕ → ℕ → Cell → List ℕ
+cell_part table frame width p cell = texts (
     codes "<rect class='" ∷ state_text cell.state ∷ codes "' data-process='" ∷ id_text p
-    ∷ codes "' y='" ∷ decimal (row_of frame p) ∷ codes "' width='24' height='16'><title>"
+    ∷ codes "' y='" ∷ decimal (row_of frame p) ∷ codes "' width='" ∷ decimal width
+    ∷ codes "' height='16'><title>"
     ∷ id_text p ∷ codes " " ∷ xml_text (process_name table p) ∷ codes " " ∷ state_text cell.state
     ∷ [])
 
 -- a cell in the row of its process
-abbrev pub cell_text : Table → Frame → ℕ → Cell → List ℕ
-cell_text table frame p cell =
-    cell_part table frame p cell ++ waits_part cell.wait ++ cell_end ++ owns_part frame p cell.owned
+abbrev pub cell_text : Table → Frame → ℕ → ℕ → Cell → List ℕ
+cell_text table frame width p cell =
+    cell_part table frame width p cell ++ waits_part cell.wait ++ cell_end
+    ++ owns_part frame width p cell.owned
 
 -- the cell of process p of a moment
-abbrev pub cell_at : Table → Frame → Shown → ℕ → List ℕ
-cell_at table frame shown p = cell_text table frame p (slice_index_or shown.cells p no_cell)
+abbrev pub cell_at : Table → Frame → ℕ → Shown → ℕ → List ℕ
+cell_at table frame width shown p =
+    cell_text table frame width p (slice_index_or shown.cells p no_cell)
 
 -- a ring in the row of a process
 unfoldable pub circle_text : Frame → List ℕ → ℕ → List ℕ
 circle_text frame line p = texts (
-    codes "<circle class='ring' data-process='" ∷ id_text p ∷ codes "' cx='12' cy='"
+    codes "<circle class='ring' data-process='" ∷ id_text p ∷ codes "' cx='16' cy='"
     ∷ decimal (row_of frame p + 8) ∷ codes "' r='4'><title>" ∷ xml_text line
     ∷ codes "</title></circle>\n" ∷ [])
 
@@ -185,10 +208,22 @@ notice_word (Woken p code) = codes "woken"
 notice_word (Released p) = codes "released"
 notice_word (Missed p kind) = codes "missed"
 
--- the line from a caller's ring to the wedge of a notice
+-- where the mark of a notice begins
+abbrev pub corner_text : Notice → List ℕ
+corner_text (Woken p code) = codes "M11,"
+corner_text (Released p) = codes "M11,"
+corner_text (Missed p kind) = codes "M1,"
+
+-- the outline of the mark of a notice: a wedge, or a frame around the cell for a missed deadline
+abbrev pub outline_text : Notice → List ℕ
+outline_text (Woken p code) = codes " h10 l-5,9 z"
+outline_text (Released p) = codes " h10 l-5,9 z"
+outline_text (Missed p kind) = codes " m0,-4 h30 v20 h-30 z"
+
+-- the line from a caller's ring to the mark of a notice
 unfoldable pub dash_text : Frame → ℕ → Notice → List ℕ
 dash_text frame caller notice = texts (
-    codes "<line class='" ∷ notice_word notice ∷ codes "' x1='12' x2='12' y1='"
+    codes "<line class='" ∷ notice_word notice ∷ codes "' x1='16' x2='16' y1='"
     ∷ decimal (row_of frame caller + 8) ∷ codes "' y2='"
     ∷ decimal (row_of frame (notice_process notice) + 4) ∷ codes "'/>\n" ∷ [])
 
@@ -198,22 +233,22 @@ dash_to frame (Process p) notice = dash_text frame p notice
 dash_to frame Init notice = []
 dash_to frame Nobody notice = []
 
--- the wedge of a notice, in the row of its process
+-- the mark of a notice, in the row of its process
 unfoldable pub wedge_text : Frame → Notice → List ℕ
 wedge_text frame notice = texts (
     codes "<path class='" ∷ notice_word notice ∷ codes "' data-process='"
     ∷ id_text (notice_process notice)
-    ∷ codes "' d='M7," ∷ decimal (row_of frame (notice_process notice) + 2)
-    ∷ codes " h10 l-5,9 z'><title>"
-    ∷ notice_word notice ∷ codes " " ∷ id_text (notice_process notice) ∷ codes "</title></path>\n"
+    ∷ codes "' d='" ∷ corner_text notice ∷ decimal (row_of frame (notice_process notice) + 2)
+    ∷ outline_text notice ∷ codes "'><title>" ∷ notice_word notice ∷ codes " " ∷ id_text (notice_process notice) ∷ codes "</title></path>\n"
     ∷ [])
 
--- the marks of a column: the instant, the call, a cell for each process, the lines from the caller's ring
--- to the wedges, the ring, and the wedges of the notices
+-- the marks of a column: the instant, the call, a cell for each process up to the next column, the lines
+-- from the caller's ring to the marks of the notices, the ring, and the marks of the notices
 abbrev pub marks_text : Table → Frame → Entry → Shown → List ℕ
 marks_text table frame entry shown =
     time_text frame entry ++ call_text table frame entry
-    ++ texts_of (cell_at table frame shown) (length table.processes)
+    ++ texts_of (cell_at table frame (column_width frame entry.number) shown)
+    (length table.processes)
     ++ flat_map (dash_to frame entry.process) entry.notices
     ++ ring_text table frame entry ++ flat_map (wedge_text frame) entry.notices
 
@@ -221,8 +256,8 @@ marks_text table frame entry shown =
 unfoldable pub start_text : Frame → ℕ → List ℕ
 start_text frame number = texts (
     codes "<g class='column' data-entry='" ∷ decimal number ∷ codes "' transform='translate("
-    ∷ decimal (frame.left + 24 * (number - frame.first))
-    ∷ codes ",0)'>\n<text class='number' x='12' y='" ∷ decimal (frame.bottom + 8) ∷ codes "'>"
+    ∷ decimal (column_place frame number)
+    ∷ codes ",0)'>\n<text class='number' x='16' y='" ∷ decimal (frame.bottom + 8) ∷ codes "'>"
     ∷ decimal number ∷ codes "</text>\n" ∷ [])
 
 -- the column of an entry, if the frame shows it
@@ -234,7 +269,7 @@ column_text table frame entry shown =
 
 -- the place behind the last column
 abbrev pub behind : Frame → ℕ
-behind frame = frame.left + 24 * (frame.last + 1 - frame.first)
+behind frame = frame.left + frame.behind
 
 -- the mark of a departure behind the last column: a line, the line that the machine expects, and the
 -- line that was given
@@ -267,7 +302,7 @@ key_text frame = texts (
 -- what a picture shows, of which more was asked for
 unfoldable pub excerpt_text : Excerpt → List ℕ
 excerpt_text excerpt = texts (
-    codes "<text x='700' y='9'>entries " ∷ decimal excerpt.first ∷ codes " to "
+    codes "<text x='785' y='9'>entries " ∷ decimal excerpt.first ∷ codes " to "
     ∷ decimal excerpt.last ∷ codes " of " ∷ decimal excerpt.entries ∷ codes "</text>" ∷ [])
 
 -- the note of what a picture shows, if more was asked for

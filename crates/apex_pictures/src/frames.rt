@@ -1,14 +1,16 @@
 //! The places of the columns and of the rows of a picture.
-ghost use Rattle.std.specs.Prelude.{◌≡◌, ◌<◌, ◌≤◌, ◌^◌, length, None, Some};
+ghost use Rattle.std.specs.Prelude.{◌≡◌, ◌<◌, ◌≤◌, ◌^◌, IfOk, length, None, Some};
 ghost use Rattle.apex_types.specs.declared.limits.TheConstants.{MOST_CORES, MOST_PROCESSES};
 ghost use Rattle.arrayvec.specs.ArrayVec.{array_vec_len};
+ghost use Rattle.apex_pictures.specs.Axes.{behind_of, last_column, places_of};
 ghost use Rattle.apex_pictures.specs.Excerpts.{excerpt_of, last_drawn};
-ghost use Rattle.apex_pictures.specs.Svg.{behind, heading_of, row_of, shows};
+ghost use Rattle.apex_pictures.specs.Svg.{behind, column_at, column_place, column_width, heading_of, row_of, shows};
 
+use crate::axes::{Axis, behind_of, last_column, places_of};
 use crate::excerpts::{Excerpt, excerpt_of, last_drawn};
 use crate::marks::Mark;
 use crate::moments::CORES;
-use crate::svg::bare_line;
+use crate::svg::{MOST_CALL, bare_line};
 use crate::words::name_of;
 use apex_dispatch::Kernel;
 use apex_store::Store;
@@ -18,9 +20,13 @@ use apex_types::{
 };
 use arrayvec::ArrayVec;
 use itoa::Buffer;
+use std::alloc::{AllocError, Global};
 
-/// The distance from one column to the next, and from one row to the next.
-const STEP: u32 = 24;
+/// The distance from one row to the next.
+const ROW: u32 = 24;
+
+/// The least width of a picture: that of its key.
+const LEAST_WIDTH: u32 = 780;
 
 /// The width of a letter.
 const LETTER: u32 = 7;
@@ -32,11 +38,11 @@ const ADVANCE: u32 = 4;
 
 /// The look of the marks, and the white behind them.
 const STYLE: &str =
-    "<style>text{fill:#222}.core{font-weight:bold;fill:#555}.now{fill:#333}.number{fill:#888;font-size:8px;text-anchor:middle}.time{stroke:#999}.RUNNING{fill:#2f7d32}.READY{fill:#8fce92}.WAITING{fill:#dfe3e6}.DORMANT{fill:#fff;stroke:#eee}.owns{fill:#c62828}.ring{fill:#fff;stroke:#111;stroke-width:1.5}path{stroke:#fff}line{stroke-width:1.5;stroke-dasharray:3,2}line.time{stroke-width:1;stroke-dasharray:none}.woken{fill:#1e88e5}line.woken{stroke:#1e88e5}.released{fill:#8e24aa}line.released{stroke:#8e24aa}.missed{fill:#e53935}line.missed{stroke:#e53935}.departs{fill:#c62828}line.departs{stroke:#c62828;stroke-width:2;stroke-dasharray:none}</style>\n<rect width='100%' height='100%' fill='#fff'/>\n";
+    "<style>text{fill:#222}.core{font-weight:bold;fill:#555}.now{fill:#333}.number{fill:#555;font-size:10px;text-anchor:middle}.time{stroke:#999}.RUNNING{fill:#2f7d32}.READY{fill:#8fce92}.WAITING{fill:#dfe3e6}.DORMANT{fill:#fff;stroke:#ddd}.owns{fill:#c62828}.ring{fill:#fff;stroke:#111;stroke-width:1.5}path{stroke:#fff}line{stroke-width:1.5;stroke-dasharray:3,2}line.time{stroke-width:1;stroke-dasharray:none}.woken{fill:#1e88e5}line.woken{stroke:#1e88e5}.released{fill:#8e24aa}line.released{stroke:#8e24aa}path.missed{fill:none;stroke:#e53935;stroke-width:2}line.missed{stroke:#e53935}.departs{fill:#c62828}line.departs{stroke:#c62828;stroke-width:2;stroke-dasharray:none}</style>\n<rect width='100%' height='100%' fill='#fff'/>\n";
 
 /// The meaning of each mark.
 const KEY: &str =
-    "<rect class='RUNNING' x='20' y='0' width='16' height='10'/><text x='40' y='9'>running</text><rect class='READY' x='110' y='0' width='16' height='10'/><text x='130' y='9'>ready</text><rect class='WAITING' x='185' y='0' width='16' height='10'/><text x='205' y='9'>waiting</text><rect class='owns' x='270' y='4' width='16' height='3'/><text x='290' y='9'>owns a mutex</text><circle class='ring' cx='395' cy='5' r='4'/><text x='405' y='9'>caller</text><path class='woken' d='M460,0 h10 l-5,9 z'/><text x='474' y='9'>woken</text><path class='released' d='M530,0 h10 l-5,9 z'/><text x='544' y='9'>released</text><path class='missed' d='M610,0 h10 l-5,9 z'/><text x='624' y='9'>missed</text>";
+    "<rect class='RUNNING' x='20' y='0' width='16' height='10'/><text x='40' y='9'>running</text><rect class='READY' x='105' y='0' width='16' height='10'/><text x='125' y='9'>ready</text><rect class='WAITING' x='180' y='0' width='16' height='10'/><text x='200' y='9'>waiting</text><rect class='DORMANT' x='265' y='0' width='16' height='10'/><text x='285' y='9'>dormant</text><rect class='owns' x='355' y='4' width='16' height='3'/><text x='375' y='9'>owns a mutex</text><circle class='ring' cx='475' cy='5' r='4'/><text x='485' y='9'>caller</text><path class='woken' d='M540,0 h10 l-5,9 z'/><text x='554' y='9'>woken</text><path class='released' d='M610,0 h10 l-5,9 z'/><text x='624' y='9'>released</text><path class='missed' d='M691,-1 h18 v12 h-18 z'/><text x='714' y='9'>missed</text>";
 
 /// The end of the file, behind the key: a script that keeps the labels in sight.
 const END: &str =
@@ -62,6 +68,10 @@ pub struct Frame {
     pub(crate) foot: u32,
     /// The place at which the first column begins.
     pub(crate) left: u32,
+    /// The place of each column, from the first one, in pixels.
+    pub places: Vec<u32>,
+    /// The place behind the last column.
+    pub behind: u32,
     /// The place of each process's row.
     rows: ArrayVec<u32, MOST_PROCESSES>,
     /// The place of each core's heading.
@@ -133,7 +143,7 @@ fn rows_of(cores: &[u8], top: u32) -> ArrayVec<u32, MOST_PROCESSES>
     for place in 0..cores.len() {
         let core = cores[place];
         let above = count_below(cores, core) + count_of(&cores[..place], core);
-        rows.push(top + STEP * (above + u32::from(core) + 1));
+        rows.push(top + ROW * (above + u32::from(core) + 1));
     }
     rows
 }
@@ -146,7 +156,7 @@ fn headings_of(cores: &[u8], count: u8, top: u32) -> ArrayVec<u32, CORES>
 {
     let mut headings = ArrayVec::new();
     for core in 0..count {
-        headings.push(top + STEP * (count_below(cores, core) + u32::from(core)));
+        headings.push(top + ROW * (count_below(cores, core) + u32::from(core)));
     }
     headings
 }
@@ -172,16 +182,17 @@ fn call_letters<S: Store>(kernel: &Kernel<S>, place: usize) -> usize
     bare_line(kernel.table(), &entry).len().saturating_sub(14)
 }
 
-/// The number of letters of the longest call and reply at these places of the history.
+/// The number of letters that are drawn of the longest call and reply at these places of the
+/// history.
 fn longest_call<S: Store>(kernel: &Kernel<S>, first: usize, end: usize) -> u32
     requires { end ≤ length kernel.now.machine.history }
-    ensures { result ≤ 4096 }
+    ensures { result ≤ 61 }
 {
     let mut longest = 0;
     for place in first..end {
         longest = longest.max(call_letters(kernel, place));
     }
-    longest.min(4096) as u32
+    longest.min(MOST_CALL + 1) as u32
 }
 
 /// The number of letters of an instant.
@@ -194,44 +205,56 @@ fn instant_letters(now: u64) -> u32
 
 impl Frame {
     /// The frame for the entries of a kernel's history with these numbers, [`MOST_COLUMNS`] at the
-    /// most.
+    /// most, with their columns along this axis.
     ///
     /// [`MOST_COLUMNS`]: crate::MOST_COLUMNS
-    pub fn new<S: Store>(kernel: &Kernel<S>, first: u32, last: u32) -> Frame
-        ensures first { result.first ≡ first }
-        ensures last { result.last ≡ last_drawn first last }
-        ensures excerpt { result.excerpt
-            ≡ excerpt_of first last (length kernel.now.machine.history) }
-        ensures unmarked { result.mark ≡ None }
+    pub fn new<S: Store>(
+        alloc: Global,
+        axis: Axis,
+        kernel: &Kernel<S>,
+        first: u32,
+        last: u32,
+    ) -> Result<Frame, AllocError>
+        ensures first { IfOk result (λ frame. frame.first ≡ first) }
+        ensures last { IfOk result (λ frame. frame.last ≡ last_drawn first last) }
+        ensures excerpt { IfOk result (λ frame. frame.excerpt
+            ≡ excerpt_of first last (length kernel.now.machine.history)) }
+        ensures places { let history = kernel.now.machine.history in
+            IfOk result (λ frame. frame.places.items
+            ≡ places_of axis history first (last_column first last (length history))) }
+        ensures behind { let history = kernel.now.machine.history in
+            IfOk result (λ frame. frame.behind
+            ≡ behind_of axis history first (last_column first last (length history))) }
+        ensures unmarked { IfOk result (λ frame. frame.mark ≡ None) }
     {
         let table = kernel.table();
-        let entries = kernel.entries().len();
-        let excerpt = excerpt_of(first, last, entries);
-        let last = last_drawn(first, last);
-        let end = entries.min(last as usize);
-        let columns = (end as u32).saturating_sub(first) + 1;
-        let longest = longest_call(kernel, first.saturating_sub(1) as usize, end);
+        let end = last_column(kernel, first, last);
+        let places = places_of(alloc, kernel, axis, first, end)?;
+        let behind = behind_of(kernel, axis, first, end);
+        let longest = longest_call(kernel, first.saturating_sub(1) as usize, end as usize);
         let top = 20 + RISE * longest;
         let left = 50 + LETTER * longest_name(table);
         let cores = cores_of(table);
         let rows = table.process_count() as u32 + u32::from(table.cores());
-        let bottom = top + STEP * rows + 6;
-        Frame {
+        let bottom = top + ROW * rows + 6;
+        Ok(Frame {
             first,
-            last,
-            excerpt,
+            last: last_drawn(first, last),
+            excerpt: excerpt_of(first, last, kernel.entries().len()),
             mark: None,
-            width: (left + STEP * columns + ADVANCE * longest + 30).max(700),
+            width: (left + behind + ADVANCE * longest + 30).max(LEAST_WIDTH),
             top,
             bottom,
             foot: bottom + 40 + RISE * instant_letters(kernel.now()),
             left,
+            places,
+            behind,
             rows: rows_of(cores.as_slice(), top),
             headings: headings_of(cores.as_slice(), table.cores(), top),
             style: STYLE,
             key: KEY,
             end: END,
-        }
+        })
     }
 
     /// The frame with the mark of a departure, and with room for it.
@@ -239,12 +262,12 @@ impl Frame {
         ensures first { result.first ≡ self.first }
         ensures last { result.last ≡ self.last }
         ensures excerpt { result.excerpt ≡ self.excerpt }
+        ensures places { result.places ≡ self.places }
+        ensures behind { result.behind ≡ self.behind }
         ensures mark { result.mark ≡ Some mark }
     {
-        let columns = (self.last.saturating_sub(self.first)).saturating_add(1);
-        let letters = mark.letters();
-        let behind = self.left.saturating_add(STEP.saturating_mul(columns));
-        let width = behind.saturating_add(LETTER * letters + 30);
+        let behind = self.left.saturating_add(self.behind);
+        let width = behind.saturating_add(LETTER * mark.letters() + 30);
         self.width = self.width.max(width);
         self.mark = Some(mark);
         self
@@ -254,8 +277,42 @@ impl Frame {
     pub(crate) fn behind(&self) -> u64
         ensures { result ≡ behind self.now }
     {
-        let columns = (u64::from(self.last) + 1).saturating_sub(u64::from(self.first));
-        u64::from(self.left) + 24 * columns
+        u64::from(self.left) + u64::from(self.behind)
+    }
+
+    /// The place at which the first column begins.
+    fn edge(&self) -> u64
+        ensures value { result ≡ self.now.left }
+        ensures range { result < 2 ^ 32 }
+    {
+        u64::from(self.left)
+    }
+
+    /// The place of the column behind this many others, from the first one.
+    fn column(&self, before: usize) -> u64
+        ensures value { result ≡ column_at self.now before }
+        ensures range { result < 2 ^ 32 }
+    {
+        match self.places.as_slice().get(before) {
+            Some(place) => u64::from(*place),
+            None => u64::from(self.behind),
+        }
+    }
+
+    /// The place of the column of the entry of this number.
+    pub(crate) fn place(&self, number: u32) -> u64
+        ensures { result ≡ column_place self.now number }
+    {
+        let before = number.saturating_sub(self.first) as usize;
+        self.edge() + self.column(before)
+    }
+
+    /// The width of the column of the entry of this number, up to the next one.
+    pub(crate) fn width_of(&self, number: u32) -> u64
+        ensures { result ≡ column_width self.now number }
+    {
+        let before = number.saturating_sub(self.first) as usize;
+        self.column(before + 1).saturating_sub(self.column(before))
     }
 
     /// Whether the entry of this number is drawn.

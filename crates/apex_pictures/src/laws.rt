@@ -1,5 +1,5 @@
 //! What holds of pictures and of their texts.
-ghost use Rattle.apex_pictures.specs.Laws.{AreInOrder, ArePictures};
+ghost use Rattle.apex_pictures.specs.Laws.{AreInOrder, ArePictures, ColumnsAreApart};
 ghost use Rattle.apex_pictures.specs.Texts.{AreReadBack};
 
 /// The picture of every run has a column for each entry of the history. The column has the entry,
@@ -14,6 +14,13 @@ pub fn columns_say_entries()
 /// each is in the tick of its time.
 pub fn moments_are_in_order()
     ensures { AreInOrder }
+{}
+
+/// In the SVG of every run, of a lawful table, no column begins before the end of the one before it,
+/// along either axis. By time, ticks without an entry have room, and entries of one time stand side by
+/// side.
+pub fn columns_are_apart()
+    ensures { ColumnsAreApart }
 {}
 
 /// A reader of XML takes back every text as it is: the name of a process is read from an SVG as the

@@ -1,8 +1,9 @@
 //! A picture as SVG: its head, its columns, and its labels and key.
-ghost use Rattle.std.specs.Prelude.{◌≡◌, ◌≤◌, ◌++◌, drop, flat_map, length, OnOk};
+ghost use Rattle.std.specs.Prelude.{◌≡◌, ◌≤◌, ◌++◌, codes, drop, flat_map, length, take, OnOk};
 ghost use Rattle.apex_calls.specs.Lines.{IsPrintable, line_of};
 ghost use Rattle.apex_machine.specs.text.Listing.{texts_of};
-ghost use Rattle.apex_pictures.specs.Svg.{bare, bar_text, call_end, call_text, cell_at, cell_end, cell_part, cell_text, circle_text, column_end, column_text, dash_text, dash_to, excerpt_text, foot_text, heading_text, head_text, instant_text, is_timed, key_text, label_text, mark_part, mark_text, marks_text, mutex_text, note_text, notice_process, owns_part, ring_text, said_text, start_text, time_text, title_text, waits_part, wedge_text, white_text};
+ghost use Rattle.apex_pictures.specs.Texts.{xml_text};
+ghost use Rattle.apex_pictures.specs.Svg.{bare, bar_text, call_end, call_text, cell_at, cell_end, cell_part, cell_text, circle_text, column_end, column_text, corner_text, cut_text, dash_text, dash_to, excerpt_text, foot_text, heading_text, head_text, instant_text, is_timed, key_text, label_text, mark_part, mark_text, marks_text, mutex_text, note_text, notice_process, outline_text, owns_part, ring_text, said_text, start_text, time_text, title_text, waits_part, wedge_text, white_text};
 
 use crate::excerpts::Excerpt;
 use crate::frames::Frame;
@@ -15,6 +16,9 @@ use apex_machine::Holding;
 use apex_table::Table;
 use apex_types::{Caller, CoreId, LentEntry, Notice, ProcessId, Reply, Who};
 use std::alloc::AllocError;
+
+/// The most bytes of a call and its reply that are drawn above a column.
+pub(crate) const MOST_CALL: usize = 60;
 
 /// Puts the heading of a core.
 fn put_heading(text: &mut Vec<u8>, frame: &Frame, core: CoreId) -> Result<(), AllocError>
@@ -169,13 +173,43 @@ pub(crate) fn bare_line(table: &Table, entry: &LentEntry<'_>) -> Lines
     line_of(table, &bare)
 }
 
+/// The first [`MOST_CALL`] bytes of a line.
+fn front_of(line: &[u8]) -> &[u8]
+    requires { 60 ≤ length line.now }
+    ensures { result.now ≡ take 60 line.now }
+{
+    &line[..MOST_CALL]
+}
+
+/// Puts the first [`MOST_CALL`] bytes of a line and `…`.
+#[tactic(auto, using(std::proofs::Common::append_assoc))]
+fn put_front(text: &mut Vec<u8>, line: &[u8]) -> Result<(), AllocError>
+    requires { 60 ≤ length line.now }
+    ensures { OnOk result (text.new.items ≡ text.old.items
+        ++ (xml_text (take 60 line.now) ++ codes "&#8230;")) }
+{
+    put_xml(text, front_of(line))?;
+    put(text, "&#8230;")
+}
+
+/// Puts a line, or its first [`MOST_CALL`] bytes and `…` if it is longer.
+fn put_cut(text: &mut Vec<u8>, line: &[u8]) -> Result<(), AllocError>
+    ensures { OnOk result (text.new.items ≡ text.old.items ++ cut_text line.now) }
+{
+    if line.len() <= MOST_CALL {
+        put_xml(text, line)
+    } else {
+        put_front(text, line)
+    }
+}
+
 /// Puts the call and the reply of an entry.
 fn put_said(text: &mut Vec<u8>, table: &Table, entry: &LentEntry<'_>) -> Result<(), AllocError>
     requires { IsPrintable table.now entry.now }
     ensures { OnOk result (text.new.items ≡ text.old.items ++ said_text table.now entry.entry.now) }
 {
     let line = bare_line(table, entry);
-    put_xml(text, behind_nobody(line.as_slice()))
+    put_cut(text, behind_nobody(line.as_slice()))
 }
 
 /// Puts the head of the text above a column, with its tooltip.
@@ -185,7 +219,7 @@ fn put_title(text: &mut Vec<u8>, frame: &Frame, line: &[u8]) -> Result<(), Alloc
     put_all(
         text,
         &[
-            Part::Plain("<text class='call' transform='translate(15,"),
+            Part::Plain("<text class='call' transform='translate(19,"),
             Part::Number(u64::from(frame.top)),
             Part::Plain(") rotate(-60)'><title>"),
             Part::Xml(line),
@@ -248,15 +282,22 @@ fn put_waits(text: &mut Vec<u8>, cell: &Cell) -> Result<(), AllocError>
 }
 
 /// Puts the bar of an owner of mutexes, up to the mutexes.
-fn put_bar(text: &mut Vec<u8>, frame: &Frame, process: ProcessId) -> Result<(), AllocError>
-    ensures { OnOk result (text.new.items ≡ text.old.items ++ bar_text frame.now process) }
+fn put_bar(
+    text: &mut Vec<u8>,
+    frame: &Frame,
+    width: u64,
+    process: ProcessId,
+) -> Result<(), AllocError>
+    ensures { OnOk result (text.new.items ≡ text.old.items ++ bar_text frame.now width process) }
 {
     put_all(
         text,
         &[
             Part::Plain("<rect class='owns' y='"),
             Part::Number(frame.row(process) + 15),
-            Part::Plain("' width='24' height='3'><title>owns"),
+            Part::Plain("' width='"),
+            Part::Number(width),
+            Part::Plain("' height='3'><title>owns"),
         ],
     )
 }
@@ -276,16 +317,17 @@ fn put_mutexes(text: &mut Vec<u8>, held: &[Holding]) -> Result<(), AllocError>
 fn put_owns(
     text: &mut Vec<u8>,
     frame: &Frame,
+    width: u64,
     process: ProcessId,
     held: &[Holding],
 ) -> Result<(), AllocError>
     ensures { OnOk result (text.new.items ≡ text.old.items
-        ++ owns_part frame.now process held.now) }
+        ++ owns_part frame.now width process held.now) }
 {
     if held.is_empty() {
         return Ok(());
     }
-    put_bar(text, frame, process)?;
+    put_bar(text, frame, width, process)?;
     put_mutexes(text, held)?;
     put_cell_end(text)
 }
@@ -295,11 +337,12 @@ fn put_state(
     text: &mut Vec<u8>,
     table: &Table,
     frame: &Frame,
+    width: u64,
     process: ProcessId,
     cell: &Cell,
 ) -> Result<(), AllocError>
     ensures { OnOk result (text.new.items ≡ text.old.items
-        ++ cell_part table.now frame.now process cell.now) }
+        ++ cell_part table.now frame.now width process cell.now) }
 {
     put_all(
         text,
@@ -310,7 +353,9 @@ fn put_state(
             id_part(process),
             Part::Plain("' y='"),
             Part::Number(frame.row(process)),
-            Part::Plain("' width='24' height='16'><title>"),
+            Part::Plain("' width='"),
+            Part::Number(width),
+            Part::Plain("' height='16'><title>"),
             id_part(process),
             Part::Plain(" "),
             Part::Xml(name_of(table, process)),
@@ -326,16 +371,17 @@ fn put_cell(
     text: &mut Vec<u8>,
     table: &Table,
     frame: &Frame,
+    width: u64,
     process: ProcessId,
     cell: &Cell,
 ) -> Result<(), AllocError>
     ensures { OnOk result (text.new.items ≡ text.old.items
-        ++ cell_text table.now frame.now process cell.now) }
+        ++ cell_text table.now frame.now width process cell.now) }
 {
-    put_state(text, table, frame, process, cell)?;
+    put_state(text, table, frame, width, process, cell)?;
     put_waits(text, cell)?;
     put_cell_end(text)?;
-    put_owns(text, frame, process, cell.owned.as_slice())
+    put_owns(text, frame, width, process, cell.owned.as_slice())
 }
 
 /// Puts the cells of all processes.
@@ -343,14 +389,16 @@ fn put_cells(
     text: &mut Vec<u8>,
     table: &Table,
     frame: &Frame,
+    width: u64,
     moment: &Moment,
 ) -> Result<(), AllocError>
     ensures { OnOk result (text.new.items ≡ text.old.items
-        ++ texts_of (cell_at table.now frame.now moment.now) (length table.now.processes)) }
+        ++ texts_of (cell_at table.now frame.now width moment.now)
+        (length table.now.processes)) }
 {
     for place in 0..table.process_count() {
         let process = ProcessId::at(place as u8);
-        put_cell(text, table, frame, process, &moment.cell(process))?;
+        put_cell(text, table, frame, width, process, &moment.cell(process))?;
     }
     Ok(())
 }
@@ -370,7 +418,7 @@ fn put_circle(
         &[
             Part::Plain("<circle class='ring' data-process='"),
             id_part(process),
-            Part::Plain("' cx='12' cy='"),
+            Part::Plain("' cx='16' cy='"),
             Part::Number(frame.row(process) + 8),
             Part::Plain("' r='4'><title>"),
             Part::Xml(line),
@@ -422,7 +470,7 @@ fn put_dash(
         &[
             Part::Plain("<line class='"),
             Part::Plain(notice_word(notice)),
-            Part::Plain("' x1='12' x2='12' y1='"),
+            Part::Plain("' x1='16' x2='16' y1='"),
             Part::Number(frame.row(caller) + 8),
             Part::Plain("' y2='"),
             Part::Number(frame.row(notice_process(notice)) + 4),
@@ -447,7 +495,27 @@ fn put_dash_to(
     }
 }
 
-/// Puts a wedge in the row of the process of a notice.
+/// Where the mark of a notice begins.
+fn corner_of(notice: &Notice) -> &'static str
+    ensures { result.now ≡ corner_text notice.now }
+{
+    match notice {
+        Notice::Woken(_, _) | Notice::Released(_) => "M11,",
+        Notice::Missed(_, _) => "M1,",
+    }
+}
+
+/// The outline of the mark of a notice: a wedge, or a frame around the cell for a missed deadline.
+fn outline_of(notice: &Notice) -> &'static str
+    ensures { result.now ≡ outline_text notice.now }
+{
+    match notice {
+        Notice::Woken(_, _) | Notice::Released(_) => " h10 l-5,9 z",
+        Notice::Missed(_, _) => " m0,-4 h30 v20 h-30 z",
+    }
+}
+
+/// Puts the mark of a notice in the row of its process.
 fn put_wedge(text: &mut Vec<u8>, frame: &Frame, notice: &Notice) -> Result<(), AllocError>
     ensures { OnOk result (text.new.items ≡ text.old.items ++ wedge_text frame.now notice.now) }
 {
@@ -459,9 +527,11 @@ fn put_wedge(text: &mut Vec<u8>, frame: &Frame, notice: &Notice) -> Result<(), A
             Part::Plain(notice_word(notice)),
             Part::Plain("' data-process='"),
             id_part(process),
-            Part::Plain("' d='M7,"),
+            Part::Plain("' d='"),
+            Part::Plain(corner_of(notice)),
             Part::Number(frame.row(process) + 2),
-            Part::Plain(" h10 l-5,9 z'><title>"),
+            Part::Plain(outline_of(notice)),
+            Part::Plain("'><title>"),
             Part::Plain(notice_word(notice)),
             Part::Plain(" "),
             id_part(process),
@@ -507,7 +577,7 @@ fn put_marks(
 {
     put_time(text, frame, entry)?;
     put_call(text, table, frame, entry)?;
-    put_cells(text, table, frame, moment)?;
+    put_cells(text, table, frame, frame.width_of(entry.number), moment)?;
     put_dashes(text, frame, entry)?;
     put_ring(text, table, frame, entry)?;
     put_wedges(text, frame, entry)
@@ -515,7 +585,6 @@ fn put_marks(
 
 /// Puts the head of the column of the entry of this number.
 fn put_start(text: &mut Vec<u8>, frame: &Frame, number: u32) -> Result<(), AllocError>
-    requires { frame.now.first ≤ number }
     ensures { OnOk result (text.new.items ≡ text.old.items ++ start_text frame.now number) }
 {
     put_all(
@@ -524,8 +593,8 @@ fn put_start(text: &mut Vec<u8>, frame: &Frame, number: u32) -> Result<(), Alloc
             Part::Plain("<g class='column' data-entry='"),
             Part::Number(u64::from(number)),
             Part::Plain("' transform='translate("),
-            Part::Number(u64::from(frame.left) + 24 * u64::from(number - frame.first)),
-            Part::Plain(",0)'>\n<text class='number' x='12' y='"),
+            Part::Number(frame.place(number)),
+            Part::Plain(",0)'>\n<text class='number' x='16' y='"),
             Part::Number(u64::from(frame.bottom) + 8),
             Part::Plain("'>"),
             Part::Number(u64::from(number)),
@@ -627,7 +696,7 @@ fn put_excerpt(text: &mut Vec<u8>, excerpt: &Excerpt) -> Result<(), AllocError>
     put_all(
         text,
         &[
-            Part::Plain("<text x='700' y='9'>entries "),
+            Part::Plain("<text x='785' y='9'>entries "),
             Part::Number(u64::from(excerpt.first)),
             Part::Plain(" to "),
             Part::Number(u64::from(excerpt.last)),

@@ -1,5 +1,5 @@
-//! A picture as a trace in the Trace Event Format, which is JSON: tracks of the cores and of the
-//! processes, and counters of the objects. A tick is 1,000 units of the axis; times are hundredths
+//! A picture as a trace in the Trace Event Format, which is JSON: tracks of the cores, of the
+//! processes and of the mutexes, and counters of the other objects. A tick is 1,000 units of the axis; times are hundredths
 //! of a unit, and the partition's time is an argument too.
 ghost use Rattle.std.specs.Prelude.{◌≡◌, ◌+◌, ◌≤◌, ◌++◌, flat_map, is_some, length, map, OnOk};
 ghost use Rattle.arrayvec.specs.ArrayVec.{array_vec_len};
@@ -12,26 +12,29 @@ ghost use Rattle.apex_pictures.specs.Stamps.{IsStamp, Stamps};
 ghost use Rattle.apex_pictures.specs.Trace as trace;
 ghost use Rattle.apex_pictures.specs.declared.pieces.TheConstants.{PIECE_ROOM};
 ghost use Rattle.apex_pictures.specs.declared.trace.TheConstants.{BEGIN, END, NAME};
+ghost use Rattle.apex_pictures.specs.declared.waits.TheConstants.{WAITING};
 ghost use Rattle.apex_pictures.specs.Tracks.{bare, bare_cells, cell_on, track_of};
 
 use crate::counters::put_first_counts;
 use crate::moments::{CORES, running_at};
+use crate::mutexes::{put_mutex_ends, put_mutex_names};
 use crate::pieces::{Piece, add, add_number, add_text};
 use crate::stamps::{BEGIN_ROOM, END_ROOM, FRONT, Stamp, begin_front, end_front};
 use crate::texts::{Part, put, put_all};
-use crate::tracks::{Track, Tracks, state_on, track_of};
+use crate::tracks::{Track, Tracks, track_at, track_of};
+use crate::waits::{WAITING, add_waiting, are_same_things};
 use crate::words::{code_word, deadline_word, id_part, name_of, put_id};
 use apex_dispatch::Kernel;
 use apex_json::{MOST_ESCAPE, add_json};
 use apex_store::Store;
 use apex_table::Table;
-use apex_types::{CoreId, LentEntry, MOST_NAME, Notice, ProcessId, State};
+use apex_types::{CoreId, LentEntry, MOST_NAME, MutexId, Notice, ProcessId, State};
 use std::alloc::AllocError;
 
 /// The place of a slice or a mark in a trace: its group, its track and its time.
 #[derive(Clone, Copy)]
 pub(crate) struct Spot {
-    /// 1 of the cores, 2 of the processes.
+    /// 1 of the cores, 2 of the processes, 3 of the objects.
     group: u8,
     track: u32,
     /// In hundredths of a unit.
@@ -119,6 +122,7 @@ pub(crate) fn put_head(text: &mut Vec<u8>, table: &Table, first: &Tracks) -> Res
     put_opening(text)?;
     put_core_names(text, table)?;
     put_process_names(text, table)?;
+    put_mutex_names(text, table)?;
     put_first_counts(text, table, first.counts())
 }
 
@@ -126,11 +130,11 @@ pub(crate) fn put_head(text: &mut Vec<u8>, table: &Table, first: &Tracks) -> Res
 const END: usize = FRONT + 10 + END_ROOM;
 
 /// The most bytes of the beginning of a slice, up to its name.
-const BEGIN: usize = FRONT + 10 + BEGIN_ROOM;
+pub(crate) const BEGIN: usize = FRONT + 10 + BEGIN_ROOM;
 
 /// The most bytes of the name of a slice and of what is behind it: the number of a process, and its
 /// name, of which JSON escapes each byte at the most.
-const NAME: usize = 10 + 1 + MOST_ESCAPE * MOST_NAME + 2;
+pub(crate) const NAME: usize = 10 + 1 + MOST_ESCAPE * MOST_NAME + 2;
 
 /// Adds the end of a slice.
 #[inline(always)]
@@ -147,7 +151,7 @@ fn add_end(piece: &mut Piece, spot: Spot, stamp: &Stamp)
 
 /// Adds the beginning of a slice, up to its name.
 #[inline(always)]
-fn add_begin(piece: &mut Piece, spot: Spot, stamp: &Stamp)
+pub(crate) fn add_begin(piece: &mut Piece, spot: Spot, stamp: &Stamp)
     requires stamps { Stamps stamp.now spot }
     requires room { array_vec_len piece.old + BEGIN ≤ PIECE_ROOM }
     ensures text { piece.new.items ≡ piece.old.items ++ trace.begin_text spot stamp.now.ticks }
@@ -193,29 +197,33 @@ fn add_running(
     }
 }
 
-/// Adds the slice of the state that a process enters; DORMANT has no slice.
+/// Adds the slice of the state that a process enters, with its wait; DORMANT has no slice.
 #[inline(always)]
 #[tactic(auto, using(std::proofs::Common::append_assoc))]
-fn add_being(piece: &mut Piece, spot: Spot, stamp: &Stamp, state: State)
+fn add_being(piece: &mut Piece, table: &Table, spot: Spot, stamp: &Stamp, track: &Track)
     requires stamps { Stamps stamp.now spot }
-    requires room { array_vec_len piece.old + BEGIN + NAME ≤ PIECE_ROOM }
-    ensures { piece.new.items ≡ piece.old.items ++ trace.being_text spot stamp.now.ticks state }
+    requires room { array_vec_len piece.old + BEGIN + WAITING + 2 ≤ PIECE_ROOM }
+    ensures { piece.new.items ≡ piece.old.items
+        ++ trace.being_text table.now spot stamp.now.ticks track.now.state track.now.wait }
 {
-    if let State::Dormant = state {
+    if let State::Dormant = track.state {
         return;
     }
     add_begin(piece, spot, stamp);
-    match state {
+    match track.state {
         State::Dormant => unreachable!(),
         State::Ready => add_text(piece, *b"READY\"}"),
         State::Running => add_text(piece, *b"RUNNING\"}"),
-        State::Waiting => add_text(piece, *b"WAITING\"}"),
+        State::Waiting => {
+            add_waiting(piece, table, &track.wait);
+            add_text(piece, *b"\"}");
+        }
     }
 }
 
 /// Adds the end of a slice, if there is one.
 #[inline(always)]
-fn add_ended(piece: &mut Piece, spot: Spot, stamp: &Stamp, begun: bool)
+pub(crate) fn add_ended(piece: &mut Piece, spot: Spot, stamp: &Stamp, begun: bool)
     requires stamps { Stamps stamp.now spot }
     requires room { array_vec_len piece.old + END ≤ PIECE_ROOM }
     ensures text { piece.new.items ≡ piece.old.items ++ trace.ended begun spot }
@@ -227,7 +235,7 @@ fn add_ended(piece: &mut Piece, spot: Spot, stamp: &Stamp, begun: bool)
 }
 
 #[inline(always)]
-fn is_same_process(before: &Option<ProcessId>, after: &Option<ProcessId>) -> bool
+pub(crate) fn is_same_process(before: &Option<ProcessId>, after: &Option<ProcessId>) -> bool
     ensures { result ≡ trace.same_process before.now after.now }
 {
     match before {
@@ -289,6 +297,14 @@ fn is_same_state(before: State, after: State) -> bool
     before == after
 }
 
+/// Two slices of a process are one.
+#[inline(always)]
+fn is_same_being(before: &Track, after: &Track) -> bool
+    ensures { result ≡ trace.same_being (cell_on before.now) (cell_on after.now) }
+{
+    is_same_state(before.state, after.state) && are_same_things(&before.wait, &after.wait)
+}
+
 fn is_begun(state: State) -> bool
     ensures { result ≡ trace.is_begun state }
 {
@@ -303,19 +319,20 @@ fn is_begun(state: State) -> bool
 #[inline(never)]
 fn put_change(
     text: &mut Vec<u8>,
+    table: &Table,
     spot: Spot,
     stamp: &Stamp,
-    before: State,
-    after: State,
+    before: &Track,
+    after: &Track,
 ) -> Result<(), AllocError>
     requires { Stamps stamp.now spot }
     ensures { OnOk result (text.new.items ≡ text.old.items
-        ++ (trace.ended (trace.is_begun before) spot
-        ++ trace.being_text spot stamp.now.ticks after)) }
+        ++ (trace.ended (trace.is_begun before.now.state) spot
+        ++ trace.being_text table.now spot stamp.now.ticks after.now.state after.now.wait)) }
 {
     let mut piece = Piece::new();
-    add_ended(&mut piece, spot, stamp, is_begun(before));
-    add_being(&mut piece, spot, stamp, after);
+    add_ended(&mut piece, spot, stamp, is_begun(before.state));
+    add_being(&mut piece, table, spot, stamp, after);
     text.extend_from_slice(piece.as_slice())
 }
 
@@ -323,20 +340,29 @@ fn put_change(
 #[inline(always)]
 fn put_process(
     text: &mut Vec<u8>,
+    table: &Table,
     process: ProcessId,
     time: u64,
     stamp: &Stamp,
-    before: State,
-    after: State,
+    before: &Track,
+    after: &Track,
 ) -> Result<(), AllocError>
     requires { IsStamp stamp.now time }
-    ensures { OnOk result (text.new.items ≡ text.old.items ++ trace.process_text
-        (trace.process_spot process time) stamp.now.ticks before after) }
+    ensures { OnOk result (text.new.items ≡ text.old.items ++ trace.process_text table.now
+        (trace.process_spot process time) stamp.now.ticks (cell_on before.now)
+        (cell_on after.now)) }
 {
-    if is_same_state(before, after) {
+    if is_same_being(before, after) {
         return Ok(());
     }
-    put_change(text, process_spot(process, time), stamp, before, after)
+    put_change(
+        text,
+        table,
+        process_spot(process, time),
+        stamp,
+        before,
+        after,
+    )
 }
 
 /// The track of a core.
@@ -357,6 +383,17 @@ fn process_spot(process: ProcessId, time: u64) -> Spot
     Spot {
         group: 2,
         track: process.number(),
+        time,
+    }
+}
+
+/// The track of a mutex.
+pub(crate) fn mutex_spot(mutex: MutexId, time: u64) -> Spot
+    ensures { result ≡ trace.mutex_spot mutex time }
+{
+    Spot {
+        group: 3,
+        track: mutex.number(),
         time,
     }
 }
@@ -417,6 +454,7 @@ pub(crate) fn put_runs<S: Store>(
 /// Brings the tracks up to the processes of a store, and puts the changes on them.
 pub(crate) fn put_processes<S: Store>(
     text: &mut Vec<u8>,
+    table: &Table,
     store: &S,
     running: &[Option<ProcessId>],
     time: u64,
@@ -427,16 +465,17 @@ pub(crate) fn put_processes<S: Store>(
     requires running { running.now ≡ running_in (S.roster store.now) }
     requires many { length tracks.old ≡ length (S.roster store.now).records }
     ensures text { OnOk result (text.new.items ≡ text.old.items
-        ++ texts_of (trace.process_at time stamp.now.ticks (with_cells (map cell_on tracks.old))
-        (with_cells (bare_cells (S.roster store.now)))) (length (S.roster store.now).records)) }
+        ++ texts_of (trace.process_at table.now time stamp.now.ticks
+        (with_cells (map cell_on tracks.old)) (with_cells (bare_cells (S.roster store.now))))
+        (length (S.roster store.now).records)) }
     ensures tracks { OnOk result (tracks.new
         ≡ of_places (track_of (S.roster store.now)) (length (S.roster store.now).records)) }
 {
     for place in 0..store.process_count() {
         let process = ProcessId::at(place as u8);
         let track = track_of(store, process, running);
-        let before = state_on(tracks, place);
-        put_process(text, process, time, stamp, before, track.state)?;
+        let before = track_at(tracks, place);
+        put_process(text, table, process, time, stamp, &before, &track)?;
         tracks[place] = track;
     }
     Ok(())
@@ -452,13 +491,21 @@ fn put_ends(
 ) -> Result<(), AllocError>
     requires { IsStamp stamp.now time }
     ensures { OnOk result (text.new.items ≡ text.old.items
-        ++ texts_of (trace.process_at time stamp.now.ticks (with_cells (map cell_on last.now))
-        none_shown) (length table.now.processes)) }
+        ++ texts_of (trace.process_at table.now time stamp.now.ticks
+        (with_cells (map cell_on last.now)) none_shown) (length table.now.processes)) }
 {
     for place in 0..table.process_count() {
         let process = ProcessId::at(place as u8);
-        let before = state_on(last, place);
-        put_process(text, process, time, stamp, before, State::Dormant)?;
+        let before = track_at(last, place);
+        put_process(
+            text,
+            table,
+            process,
+            time,
+            stamp,
+            &before,
+            &Track::default(),
+        )?;
     }
     Ok(())
 }
@@ -551,8 +598,10 @@ pub(crate) fn put_column<S: Store>(
     kernel.holds();
     let table = kernel.table();
     let stamp = Stamp::new(time, entry.now);
-    shown.put_changes(text, table, kernel.store(), time, &stamp)?;
-    shown.put_counts(text, kernel, time)?;
+    let objects = kernel.situation().objects();
+    let store = kernel.store();
+    shown.put_changes(text, table, store, time, &stamp)?;
+    shown.put_counts(text, table, objects, store, time, &stamp)?;
     put_marks(text, time, &stamp, entry.notices)
 }
 
@@ -571,5 +620,6 @@ pub(crate) fn put_foot(
     let stamp = Stamp::new(time, now);
     put_cores(text, table, time, &stamp, last.running(), &[])?;
     put_ends(text, table, time, &stamp, last.tracks())?;
+    put_mutex_ends(text, table, time, &stamp, last.counts().owners())?;
     put(text, "\n]}\n")
 }

@@ -1,18 +1,18 @@
 //! The processes and the counts after an entry, as a trace shows them.
 ghost use Rattle.std.specs.Prelude.{◌≡◌, ◌<◌, ◌≤◌, ◌++◌, length, map, slice_index_or, OnOk};
 ghost use Rattle.apex_types.specs.declared.limits.TheConstants.{MOST_CORES, MOST_PROCESSES};
-ghost use Rattle.apex_pictures.specs.Counters.{counters_text};
 ghost use Rattle.apex_pictures.specs.Counts.{HasCounts, counts_of};
 ghost use Rattle.apex_pictures.specs.Moments.{moment_of, running_in};
 ghost use Rattle.apex_pictures.specs.Stamps.{IsStamp};
-ghost use Rattle.apex_pictures.specs.Trace.{changes_text};
+ghost use Rattle.apex_pictures.specs.Trace.{changes_text, objects_text};
 ghost use Rattle.apex_pictures.specs.Tracks.{bare, cell_on, no_track, track_of};
 
 use crate::counts::Counts;
 use crate::moments::{CORES, running_of, state_of};
 use crate::stamps::Stamp;
 use crate::trace::{put_processes, put_runs};
-use apex_dispatch::Kernel;
+use apex_dispatch::Objects;
+use apex_machine::Wait;
 use apex_store::Store;
 use apex_table::Table;
 use apex_types::{MOST_CORES, MOST_PROCESSES, ProcessId, State};
@@ -24,6 +24,8 @@ use std::marker::Model;
 #[derive(Clone, Copy)]
 pub(crate) struct Track {
     pub(crate) state: State,
+    /// Its wait, if it waits.
+    pub(crate) wait: Option<Wait>,
 }
 
 impl Default for Track {
@@ -32,14 +34,15 @@ impl Default for Track {
     {
         Track {
             state: State::Dormant,
+            wait: None,
         }
     }
 }
 
-/// All processes after an entry, as a trace shows them: the state of each of them, and the process
-/// that each core runs. It has the counts of the objects too.
+/// All processes after an entry, as a trace shows them: the state of each of them and what it waits
+/// for, and the process that each core runs. It has the counts of the objects too.
 ///
-/// A contract sees a moment whose cells have no wait and no mutex.
+/// A contract sees a moment whose cells have no mutex.
 #[derive(Drop)]
 pub(crate) struct Tracks {
     tracks: ArrayVec<Track, MOST_PROCESSES>,
@@ -76,6 +79,7 @@ pub(crate) fn track_of<S: Store>(
     prove!(u32::from(fields.core.number()) < MOST_CORES);
     Track {
         state: state_of(process, fields, store.mode(), running),
+        wait: fields.wait,
     }
 }
 
@@ -96,13 +100,14 @@ pub(crate) fn tracks_of<S: Store>(store: &S, counts: Counts) -> Tracks
     }
 }
 
-/// The state on the track at a place; DORMANT if there is no such track.
-pub(crate) fn state_on(tracks: &[Track], place: usize) -> State
-    ensures { result ≡ (slice_index_or tracks.now place no_track).state }
+/// The track at a place; that of no process if there is no such track.
+#[inline(always)]
+pub(crate) fn track_at(tracks: &[Track], place: usize) -> Track
+    ensures { result ≡ slice_index_or tracks.now place no_track }
 {
     match tracks.get(place) {
-        Some(track) => track.state,
-        None => State::Dormant,
+        Some(track) => *track,
+        None => Track::default(),
     }
 }
 
@@ -130,25 +135,31 @@ impl Tracks {
         let running = self.running.as_mut_slice();
         put_runs(text, table, store, time, stamp, running)?;
         let (running, tracks) = (self.running.as_slice(), self.tracks.as_mut_slice());
-        put_processes(text, store, running, time, stamp, tracks)
+        put_processes(text, table, store, running, time, stamp, tracks)
     }
 
-    /// Brings the counts up to the objects of a kernel, and puts those that change.
+    /// Brings the counts up to these objects and the owners of the mutexes, and puts the counters
+    /// and the changes on the tracks of the mutexes.
     pub(crate) fn put_counts<S: Store>(
         &mut self,
         text: &mut Vec<u8>,
-        kernel: &Kernel<S>,
+        table: &Table,
+        objects: &Objects,
+        store: &S,
         time: u64,
+        stamp: &Stamp,
     ) -> Result<(), AllocError>
-        requires { HasCounts self.old.counts kernel.now.table }
+        requires stamp { IsStamp stamp.now time }
+        requires counts { HasCounts self.old.counts table.now }
         ensures text { OnOk result (text.new.items ≡ text.old.items
-            ++ counters_text kernel.now.table time self.old.counts
-            (counts_of kernel.now.table kernel.now.objects)) }
+            ++ objects_text table.now time stamp.now.ticks self.old.counts
+            (counts_of table.now (S.roster store.now) objects.now)) }
         ensures counts { OnOk result (self.new ≡ record self.old {
-          counts = counts_of kernel.now.table kernel.now.objects;
+          counts = counts_of table.now (S.roster store.now) objects.now;
         }) }
     {
-        self.counts.put_changes(text, kernel, time)
+        self.counts
+            .put_changes(text, table, objects, store, time, stamp)
     }
 
     /// The tracks of the processes.

@@ -6,10 +6,14 @@ ghost use Rattle.apex_search.specs.Census.{FoundHits, IsCensus, IsOneOf, IsSearc
 ghost use Rattle.apex_search.specs.Steps.{search_start};
 
 use crate::facts::{Fact, Facts};
-use crate::laws::{forms_stand_for_situations, same_forms_have_the_same_words, words_are_exact};
+use crate::laws::forms_stand_for_situations;
 use crate::systems::{TableSystem, Workplace};
-use apex_explore::{Answer, Search, is_hit};
+use apex_explore::{Answer, Search, Watch, is_hit};
+use apex_forms::{same_forms_have_the_same_words, words_are_exact};
+use apex_jobs::Jobs;
 use std::alloc::{AllocError, Global};
+use std::marker::Sync;
+use std::thread::Threads;
 
 /// A fact that can happen: the path is that of a shortest schedule that leads to it, and its entry
 /// has the number of the path's choices.
@@ -41,10 +45,12 @@ pub struct Census {
 impl TableSystem {
     /// Searches on for one of the facts. Fails only for want of memory: nothing is known of the
     /// search then.
-    pub(crate) fn go_on(
+    pub(crate) fn go_on<R: Threads + Sync, V: Watch>(
         &self,
         alloc: Global,
         search: &mut Search<Workplace>,
+        jobs: &Jobs<'_, R>,
+        watch: &mut V,
     ) -> Result<Answer, AllocError>
         requires { IsSearchOf self.now search.old }
         ensures says { IfOk result (SaysOfSchedules self.now) }
@@ -55,7 +61,7 @@ impl TableSystem {
         words_are_exact();
         same_forms_have_the_same_words();
         forms_stand_for_situations();
-        search.go_on(alloc, self)
+        jobs.go_on(alloc, search, self, watch)
     }
 
     /// One of the facts to which the path leads. Afterwards the question is for the others. Fails
@@ -83,15 +89,22 @@ impl TableSystem {
         unreachable!()
     }
 
-    /// Searches the schedules of the pace, the shortest first, for each of the facts at once. The
-    /// room for `room` states is taken before the first event. Fails only for want of memory.
-    pub fn census(mut self, alloc: Global, room: u32) -> Result<Census, AllocError>
+    /// Searches the schedules of the pace, the shortest first, for each of the facts at once. The jobs
+    /// share the search. The room for `room` states is taken before the first event. Fails only for want
+    /// of memory.
+    pub fn census<R: Threads + Sync, V: Watch>(
+        mut self,
+        alloc: Global,
+        room: u32,
+        jobs: &Jobs<'_, R>,
+        watch: &mut V,
+    ) -> Result<Census, AllocError>
         ensures { IfOk result (IsCensus self) }
     {
         let mut search = Search::new(alloc, &self, room)?;
         let mut found = Vec::new(alloc);
         loop {
-            match self.go_on(alloc, &mut search)? {
+            match self.go_on(alloc, &mut search, jobs, watch)? {
                 Answer::Found(path) => {
                     let fact = self.strike(alloc, path.as_slice())?;
                     found.push(Finding { fact, path })?;

@@ -2,16 +2,19 @@
 ghost use Rattle.std.specs.Prelude.{◌≡◌, ℕ, IfOk, option_map};
 ghost use Rattle.apex_search.specs.Answers.{LeadsToFact, schedule_of};
 ghost use Rattle.apex_search.specs.Census.{IsSearchOf};
-ghost use Rattle.apex_search.specs.Counts.{paced_in};
+ghost use Rattle.apex_choices.specs.Counts.{paced_in};
 ghost use Rattle.apex_search.specs.Steps.{Searched};
 ghost use Rattle.apex_search.specs.Worst.{IsJobOf, IsRound, IsWorst, last_job, responding, schedule_in};
 
-use crate::paced::PacedSituation;
 use crate::systems::{TableSystem, Workplace};
-use apex_explore::{Answer, Search};
+use apex_choices::PacedSituation;
+use apex_explore::{Answer, Search, Watch};
+use apex_jobs::Jobs;
 use apex_store::Store;
 use apex_types::{Event, ProcessId};
 use std::alloc::{AllocError, Global};
+use std::marker::Sync;
+use std::thread::Threads;
 
 /// The slowest job that was found.
 #[derive(Drop)]
@@ -73,23 +76,21 @@ pub(crate) struct Job {
     response: u64,
 }
 
-impl PacedSituation {
-    /// The period of the process, if it has one, and the ticks since its last release.
-    fn last_job(&self, process: ProcessId) -> Option<Job>
-        ensures { result ≡ last_job (paced_in self.now).situation.roster process }
-    {
-        let store = self.situation.store();
-        if process.place() >= store.process_count() {
-            return None;
-        }
-        let fields = store.record(process);
-        match fields.attributes.period {
-            Some(period) => Some(Job {
-                period: period.ticks(),
-                response: store.now().saturating_sub(fields.release),
-            }),
-            None => None,
-        }
+/// The period of the process, if it has one, and the ticks since its last release.
+fn last_job(paced: &PacedSituation, process: ProcessId) -> Option<Job>
+    ensures { result ≡ last_job (paced_in paced.now).situation.roster process }
+{
+    let store = paced.situation.store();
+    if process.place() >= store.process_count() {
+        return None;
+    }
+    let fields = store.record(process);
+    match fields.attributes.period {
+        Some(period) => Some(Job {
+            period: period.ticks(),
+            response: store.now().saturating_sub(fields.release),
+        }),
+        None => None,
     }
 }
 
@@ -107,7 +108,7 @@ impl TableSystem {
         ensures { IfOk result (λ ended. IsJobOf self.now process path.now ended.0.items ended.1) }
     {
         let (schedule, form) = self.follow(alloc, path)?;
-        match form.last_job(process) {
+        match last_job(&form, process) {
             Some(job) => Ok((schedule, job)),
             None => unreachable!(),
         }
@@ -115,19 +116,21 @@ impl TableSystem {
 
     /// Searches on for a response of at least this many ticks. If one of at most a period is found,
     /// the question is for a greater one afterwards. Fails only for want of memory.
-    fn next_response(
+    fn next_response<R: Threads + Sync, V: Watch>(
         &mut self,
         alloc: Global,
         search: &mut Search<Workplace>,
         process: ProcessId,
         least: u64,
+        jobs: &Jobs<'_, R>,
+        watch: &mut V,
     ) -> Result<Round, AllocError>
         requires asks { self.old ≡ responding self.old process least }
         requires search { IsSearchOf self.old search.old }
         ensures { (system : Searched) → self.old ≡ responding system process least
             → IfOk result (IsRound system self.new process least search.new) }
     {
-        let path = match self.go_on(alloc, search)? {
+        let path = match self.go_on(alloc, search, jobs, watch)? {
             Answer::Found(path) => path,
             Answer::Closed { states } => return Ok(Round::Closed { states }),
             Answer::Full { depth } => return Ok(Round::Full { depth }),
@@ -146,11 +149,13 @@ impl TableSystem {
     }
 
     /// Asks for a greater response as long as one is found. Fails only for want of memory.
-    fn greatest_response(
+    fn greatest_response<R: Threads + Sync, V: Watch>(
         &mut self,
         alloc: Global,
         search: &mut Search<Workplace>,
         process: ProcessId,
+        jobs: &Jobs<'_, R>,
+        watch: &mut V,
     ) -> Result<Worst, AllocError>
         requires asks { self.old ≡ responding self.old process 0 }
         requires search { IsSearchOf self.old search.old }
@@ -160,7 +165,7 @@ impl TableSystem {
         let mut found = None;
         let mut least = 0;
         loop {
-            match self.next_response(alloc, search, process, least)? {
+            match self.next_response(alloc, search, process, least, jobs, watch)? {
                 Round::Slower(slowest) => {
                     least = slowest.response + 1;
                     found = Some(slowest);
@@ -176,23 +181,25 @@ impl TableSystem {
     }
 
     /// Searches the schedules of the pace, the shortest first, for the greatest response of the
-    /// process. The room for `room` states is taken before the first event. Fails only for want of
-    /// memory.
+    /// process. The jobs share the search. The room for `room` states is taken before the first event.
+    /// Fails only for want of memory.
     ///
     /// A response is the time in ticks from the release of a job of a periodic process to the
     /// PERIODIC_WAIT that ends it. Those up to a period are told apart, since a job that takes longer
     /// can take as long as the others keep it from the core.
-    pub fn worst(
+    pub fn worst<R: Threads + Sync, V: Watch>(
         mut self,
         alloc: Global,
         process: ProcessId,
         room: u32,
+        jobs: &Jobs<'_, R>,
+        watch: &mut V,
     ) -> Result<Worst, AllocError>
         ensures { IfOk result (IsWorst self process) }
     {
         self.ask_for_response(process, 0);
         let mut search = Search::new(alloc, &self, room)?;
-        self.greatest_response(alloc, &mut search, process)
+        self.greatest_response(alloc, &mut search, process, jobs, watch)
     }
 }
 

@@ -128,7 +128,7 @@ module _ {held after : Option (List ℕ)} {failed failures : ℕ} where
 -- what is drawn is what the style says
 pub excerpt_is : (picture : Picture) (entries : List Entry) (departure : Option Departure) (style : Style) → IsStyleOf picture entries departure style
     → excerpt_in (drawn picture) entries ≡ excerpt_with style
-excerpt_is (svg window) entries departure (styles.Svg frame) is = ap (λ s. excerpt_at s (length entries)) is.is ∙ sym is.shows.excerpt
-excerpt_is (svg window) entries departure styles.Trace is = absurd is
+excerpt_is (svg window axis) entries departure (styles.Svg frame) is = ap (λ s. excerpt_at s (length entries)) is.is ∙ sym is.shows.excerpt
+excerpt_is (svg window axis) entries departure styles.Trace is = absurd is
 excerpt_is trace entries departure (styles.Svg frame) is = absurd is
 excerpt_is trace entries departure styles.Trace is = refl

@@ -23,8 +23,10 @@ use Rattle.apex_console.specs.declared.CliFault.TheVariants.{Memory, Write}
 use Rattle.apex_schedules.specs.declared.Item.{Item}
 use Rattle.apex_pictures.specs.declared.DrawFault.{DrawFault}
 use Rattle.apex_pictures.specs.declared.DrawFault.TheVariants as draw
+use Rattle.apex_pictures.specs.Axes.{behind_of, last_column, places_of}
 use Rattle.apex_pictures.specs.Excerpts.{excerpt_of, last_drawn}
 use Rattle.apex_pictures.specs.Pictures.{picture_text}
+use Rattle.apex_pictures.specs.declared.Axis.{Axis}
 use Rattle.apex_pictures.specs.declared.Excerpt.{Excerpt}
 use Rattle.apex_pictures.specs.declared.Frame.{Frame}
 use Rattle.apex_pictures.specs.declared.Style.{Style}
@@ -53,29 +55,35 @@ pub record IsListOf (limit : ℕ) (all events : List Event) (is_cut : Bool) : Ty
   pub whole : is_cut ≡ false → (rest ≡ []) × (length events ≤ limit)
   pub cut : is_cut ≡ true → (length events ≡ limit) × (0 < length rest)
 
+-- the number of the last entry of a span that has a column
+abbrev pub last_of : Span → List Entry → ℕ
+last_of span history = last_column span.first span.last (length history)
+
 -- A frame is for a span of a history: it shows the entries of the span, `MOST_COLUMNS` of them at the
--- most, and says so if these are not all. It marks the departure behind the history, if there is one
--- and the last entry is drawn.
-pub record IsFrameFor (span : Span) (history : List Entry) (departure : Option Departure)
-    (frame : Frame) : Type 0 where
+-- most, and says so if these are not all. Their columns stand along the axis. It marks the departure
+-- behind the history, if there is one and the last entry is drawn.
+pub record IsFrameFor (axis : Axis) (span : Span) (history : List Entry)
+    (departure : Option Departure) (frame : Frame) : Type 0 where
   pub first : frame.first ≡ span.first
   pub last : frame.last ≡ last_drawn span.first span.last
   pub excerpt : frame.excerpt ≡ excerpt_of span.first span.last (length history)
+  pub places : frame.places.items ≡ places_of axis history span.first (last_of span history)
+  pub behind : frame.behind ≡ behind_of axis history span.first (last_of span history)
   pub mark : Marks (departure_behind frame.last (length history) departure) frame.mark
 
 -- a frame is for a window of a history: it shows the entries from the first one of the window to the
--- last
-pub record IsFrameOf (window : Window) (history : List Entry) (departure : Option Departure)
-    (frame : Frame) : Type 0 where
+-- last, along this axis
+pub record IsFrameOf (window : Window) (axis : Axis) (history : List Entry)
+    (departure : Option Departure) (frame : Frame) : Type 0 where
   pub span : Span
   pub is : span_in window history ≡ Some span
-  pub shows : IsFrameFor span history departure frame
+  pub shows : IsFrameFor axis span history departure frame
 
 -- a style is that of a picture of a history, behind which there may be a departure
 abbrev pub IsStyleOf : Picture → List Entry → Option Departure → Style → Type 0
-IsStyleOf (svg window) history departure (style.Svg frame) =
-    IsFrameOf window history departure frame
-IsStyleOf (svg window) history departure style.Trace = ⊥
+IsStyleOf (svg window axis) history departure (style.Svg frame) =
+    IsFrameOf window axis history departure frame
+IsStyleOf (svg window axis) history departure style.Trace = ⊥
 IsStyleOf trace history departure (style.Svg frame) = ⊥
 IsStyleOf trace history departure style.Trace = Unit {0}
 
@@ -86,7 +94,7 @@ excerpt_at (Some span) entries = excerpt_of span.first span.last entries
 
 -- what a view shows of a history, if more was asked for
 abbrev pub excerpt_in : View → List Entry → Option Excerpt
-excerpt_in (drawn (svg window)) history = excerpt_at (span_in window history) (length history)
+excerpt_in (drawn (svg window axis)) history = excerpt_at (span_in window history) (length history)
 excerpt_in (drawn trace) history = None
 excerpt_in (listed listing) history = None
 

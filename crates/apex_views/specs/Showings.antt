@@ -1,6 +1,7 @@
 -- How a run is given, and how it is shown.
 use Rattle.std.specs.Prelude.{ℕ, List}
 use Rattle.apex_pace.specs.declared.paces.Pace.{Pace}
+use Rattle.apex_pictures.specs.declared.Axis.{Axis}
 use Rattle.apex_schedules.specs.declared.Item.{Item}
 use Rattle.apex_views.specs.declared.showings.Listing.{Listing}
 use Rattle.apex_views.specs.declared.showings.Picture.{Picture as PictureIn}
@@ -25,8 +26,8 @@ pub data Source : Type 0 where
 
 -- how a picture shows a run
 pub data Picture : Type 0 where
-  -- as SVG, the entries of a window
-  svg : Window → Picture
+  -- as SVG, the entries of a window, with their columns along an axis
+  svg : Window → Axis → Picture
   -- as a trace
   trace : Picture
 
@@ -55,7 +56,7 @@ source_said run.History = history
 
 -- how a picture shows a run, of a value of the program
 abbrev pub picture_said : PictureIn → Picture
-picture_said (pictures.Svg window) = svg window
+picture_said (pictures.Svg window axis) = svg window axis
 picture_said pictures.Trace = trace
 
 -- how a run is shown, of a value of the program

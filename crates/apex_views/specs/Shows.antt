@@ -20,6 +20,7 @@ use Rattle.apex_schedules.specs.declared.Item.{Item}
 use Rattle.apex_views.specs.Departures.{Departure, DepartsBehind, departure_at, departure_said}
 use Rattle.apex_views.specs.Faults.{IsBadIn}
 use Rattle.apex_views.specs.Paced.{paced_answer}
+use Rattle.apex_pictures.specs.declared.Axis.{Axis}
 use Rattle.apex_pictures.specs.declared.Excerpt.{Excerpt}
 use Rattle.apex_views.specs.Plans.{AppendsPrefixOfView, AppendsView, IsPlanFor, excerpt_in, machine_of}
 use Rattle.apex_views.specs.Showings.{Picture, Showing, Source, View, drawn, history, listed, paced, schedule, schedule_read, svg, trace}
@@ -180,9 +181,10 @@ pub record IsPlanIn (view : View) (departure : Option Departure) (plan : Plan) :
   pub is : view ≡ drawn picture
   pub planned : IsPlanFor picture departure plan
 
--- the view is a picture of this window, in which a history has no entry
+-- the view is a picture of this window, along some axis, and a history has no entry in the window
 pub record IsEmptyIn (view : View) (window : Window) (history : List Entry) : Type 0 where
-  pub is : view ≡ drawn (svg window)
+  pub axis : Axis
+  pub is : view ≡ drawn (svg window axis)
   pub none : span_in window history ≡ None
 
 -- A run that a source gave, behind which there may be a departure, is to be shown in this view: its
@@ -218,7 +220,7 @@ end_before departure (Some fault) = fails (Common fault)
 -- a view shows nothing of a history that departs: it is a listing, or the history has no entry in its
 -- window before the departure
 abbrev pub IsUnshown : View → List Entry → Type 0
-IsUnshown (drawn (svg window)) entries = span_in window entries ≡ None
+IsUnshown (drawn (svg window axis)) entries = span_in window entries ≡ None
 IsUnshown (drawn trace) entries = ⊥
 IsUnshown (listed listing) entries = Unit {0}
 

@@ -98,6 +98,8 @@ pub(crate) fn marked(
     ensures first { IfOk result (λ found. found.first ≡ frame.first) }
     ensures last { IfOk result (λ found. found.last ≡ frame.last) }
     ensures excerpt { IfOk result (λ found. found.excerpt ≡ frame.excerpt) }
+    ensures places { IfOk result (λ found. found.places.items ≡ frame.places.items) }
+    ensures behind { IfOk result (λ found. found.behind ≡ frame.behind) }
     ensures mark { IfOk result (λ found. Marks (departure_behind frame.last entries
         (option_map departure_said departure.now)) found.mark) }
 {

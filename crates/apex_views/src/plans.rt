@@ -19,7 +19,7 @@ use crate::windows::Window;
 use apex_console::{CliFault, booted, repeated};
 use apex_dispatch::{Kernel, events_in};
 use apex_history::{Counted, Sink};
-use apex_pictures::{DrawFault, Excerpt, Frame, Style, draw};
+use apex_pictures::{Axis, DrawFault, Excerpt, Frame, Style, draw};
 use apex_process::QueueStore;
 use apex_schedules::Item;
 use apex_store::Store;
@@ -49,22 +49,24 @@ impl Plan {
     }
 }
 
-/// The frame for a window of a kernel's history, behind which there may be a departure. None if the
-/// history has no entry in the window.
+/// The frame for a window of a kernel's history, behind which there may be a departure, with its
+/// columns along an axis. None if the history has no entry in the window.
 pub fn frame_for<S: Store>(
     alloc: Global,
     window: Window,
+    axis: Axis,
     departure: &Option<Departure>,
     kernel: &Kernel<S>,
 ) -> Result<Option<Frame>, AllocError>
     ensures { IfOk result
         (λ found. MatchOption found (span_in window kernel.now.machine.history ≡ None)
-        (IsFrameOf window kernel.now.machine.history (option_map departure_said departure.now))) }
+        (IsFrameOf window axis kernel.now.machine.history
+        (option_map departure_said departure.now))) }
 {
     let Some(span) = window.span_in(kernel) else {
         return Ok(None);
     };
-    let frame = Frame::new(kernel, span.first, span.last);
+    let frame = Frame::new(alloc, axis, kernel, span.first, span.last)?;
     let frame = marked(alloc, frame, departure, kernel.entries().len())?;
     Ok(Some(frame))
 }

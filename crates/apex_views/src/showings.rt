@@ -2,6 +2,7 @@
 use crate::windows::Window;
 use apex_objects::Form;
 use apex_pace::Pace;
+use apex_pictures::Axis;
 use apex_schedules::Item;
 
 /// How a run is given.
@@ -20,8 +21,8 @@ pub enum RunSource {
 /// How a picture shows a run.
 #[derive(Clone, Copy)]
 pub enum Picture {
-    /// As SVG, the entries of a window.
-    Svg(Window),
+    /// As SVG, the entries of a window, with their columns along an axis.
+    Svg(Window, Axis),
     /// As a trace.
     Trace,
 }

@@ -25,7 +25,7 @@ use apex_departures::{fault_in_memory, shown_lines};
 use apex_dispatch::Kernel;
 use apex_history::{Counted, Source, read_all};
 use apex_pace::Pace;
-use apex_pictures::Style;
+use apex_pictures::{Axis, Style};
 use apex_process::QueueStore;
 use apex_schedules::Item;
 use std::alloc::{AllocError, Global};
@@ -65,14 +65,15 @@ fn planned(alloc: Global, style: Style, run: Run) -> Result<GivenRun, AllocError
 fn svg_of(
     alloc: Global,
     window: Window,
+    axis: Axis,
     departure: &Option<Departure>,
     run: Run,
 ) -> Result<GivenRun, AllocError>
     ensures run { IfOk result (IsRunTo (runs_to run.kernel.table run.kernel.machine run.fault)) }
-    ensures view { IfOk result (IsRunFor (drawn (svg window))
+    ensures view { IfOk result (IsRunFor (drawn (svg window axis))
         (option_map departure_said departure.now)) }
 {
-    let found = frame_for(alloc, window, departure, &run.kernel)?;
+    let found = frame_for(alloc, window, axis, departure, &run.kernel)?;
     match found {
         Some(frame) => planned(alloc, Style::Svg(frame), run),
         None => Ok(GivenRun::Empty(window, run)),
@@ -91,7 +92,7 @@ fn pictured(
         (option_map departure_said departure.now)) }
 {
     match picture {
-        Picture::Svg(window) => svg_of(alloc, window, departure, run),
+        Picture::Svg(window, axis) => svg_of(alloc, window, axis, departure, run),
         Picture::Trace => planned(alloc, Style::Trace, run),
     }
 }

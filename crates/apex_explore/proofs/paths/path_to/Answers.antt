@@ -2,7 +2,7 @@
 use Rattle.std.proofs.Common.{rules, ◌≡◌, ℕ, ◌+◌, ◌-◌, ◌<◌, List, [], ◌∷◌, ◌++◌, length, Some, arith, slice_index_or}
 use Rattle.std.proofs.lemmas.Option.{slice_get-get_or, slice_get_within}
 use Rattle.std.specs.List.{slice_get}
-use Rattle.apex_explore.specs.declared.states.Origin.{Origin}
+use Rattle.apex_states.specs.declared.states.Origin.{Origin}
 use Rattle.apex_explore.proofs.Trails.{IsReadTo, IsReadTo-place, IsReadTo-step}
 use Rattle.apex_explore.proofs.paths.path_to.Goals as goal
 

@@ -2,10 +2,10 @@
 use Rattle.std.proofs.Common.{◌≡◌, ◌<◌, ◌≤◌, Some, length, ap, ◌∙◌, arith}
 use Rattle.std.specs.List.{slice_get}
 use Rattle.apex_explore.specs.Systems.{refuses, goes, step_within}
-use Rattle.apex_explore.specs.States.{Reached}
-use Rattle.apex_explore.specs.declared.states.Origin.{Origin}
+use Rattle.apex_states.specs.States.{Reached}
+use Rattle.apex_states.specs.declared.states.Origin.{Origin}
 use Rattle.apex_explore.proofs.Growth.{taken_step, IsExpanding-refused, IsExpanding-laid, all_made, AllAre-laid}
-use Rattle.apex_explore.proofs.Storing.{laid_from_kept, kept_width}
+use Rattle.apex_explore.proofs.Keeping.{laid_from_kept, kept_width}
 use Rattle.apex_explore.proofs.search.expand.Goals as goal
 use Rattle.apex_explore.proofs.search.expand.Goals.{in-Refused, in-Next+in_ok-kept-in-Next+else-not-kept}
 

@@ -1,5 +1,5 @@
 use Rattle.std.proofs.Common.{◌≡◌}
-use Rattle.apex_explore.specs.Lists.{AllAre}
+use Rattle.apex_states.specs.Lists.{AllAre}
 use Rattle.apex_explore.specs.Systems.{step_within}
 use Rattle.apex_explore.proofs.Growth.{IsExpanding}
 use Rattle.apex_explore.proofs.search.expand.Given as goal

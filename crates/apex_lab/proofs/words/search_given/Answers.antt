@@ -15,3 +15,4 @@ returns c =
     (c.get_str-5.ensures ∙ first_value-rows found (codes "turns"))
     (c.get_str-6.ensures ∙ first_value-rows found (codes "early"))
     (c.get_str-7.ensures ∙ first_value-rows found (codes "states"))
+    (c.get_str-8.ensures ∙ first_value-rows found (codes "jobs"))

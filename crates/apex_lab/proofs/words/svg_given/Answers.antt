@@ -9,3 +9,4 @@ returns c =
     let found = found_of c.args.matches.now in
     same_svg (c.get_str.ensures ∙ first_value-rows found (codes "from"))
     (c.get_str-2.ensures ∙ first_value-rows found (codes "to"))
+    (c.get_str-3.ensures ∙ first_value-rows found (codes "by"))

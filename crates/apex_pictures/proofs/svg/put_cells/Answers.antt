@@ -6,6 +6,6 @@ use Rattle.apex_pictures.proofs.svg.put_cells.Goals as goal
 pub loop-place-preserved : goal.loop-place-preserved
 loop-place-preserved c = record {
   many = c.loop-place.invariant.many;
-  text = text_next (cell_at c.args.table.now c.args.frame.now c.args.moment.now) c.loop-place.place _ _ _ c.loop-place.invariant.text
+  text = text_next (cell_at c.args.table.now c.args.frame.now c.args.width c.args.moment.now) c.loop-place.place _ _ _ c.loop-place.invariant.text
       (rw (c.cell.ensures, c.at-process.ensures) at c.in_ok-put_cell.ensures);
 }

@@ -7,5 +7,5 @@ use Rattle.apex_pictures.proofs.svg.put_cells.Given as goal
 abbrev pub invariant-loop-place : goal.invariant-loop-place
 invariant-loop-place l = record {
   many : l.place-end ≡ length l.table.processes;
-  text : l.text.items ≡ l.fn.text.items ++ texts_of (cell_at l.table l.frame l.moment) l.place;
+  text : l.text.items ≡ l.fn.text.items ++ texts_of (cell_at l.table l.frame l.width l.moment) l.place;
 }

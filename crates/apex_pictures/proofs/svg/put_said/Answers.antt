@@ -9,4 +9,4 @@ behind_nobody-requires c = bare_long c.args.table.now c.args.entry.now _ (c.as_s
 pub returns : goal.returns
 returns c =
     let said = bare_said c.args.table.now c.args.entry.now _ (c.as_slice.ensures.value ∙ c.bare_line-line.ensures) in
-    rw (c.behind_nobody.ensures, said) at c.put_xml.ensures
+    rw (c.behind_nobody.ensures, said) at c.put_cut.ensures

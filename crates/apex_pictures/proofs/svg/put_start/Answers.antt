@@ -4,4 +4,4 @@ use Rattle.apex_pictures.proofs.svg.put_start.Goals as goal
 
 pub returns : goal.returns
 unfolding start_text
-returns c = rw (c.from.ensures, c.from-2.ensures, c.from-3.ensures, c.from-4.ensures, c.from-5.ensures) at c.put_all.ensures
+returns c = rw (c.from.ensures, c.place.ensures, c.from-2.ensures, c.from-3.ensures) at c.put_all.ensures

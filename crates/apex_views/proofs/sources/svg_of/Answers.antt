@@ -7,7 +7,7 @@ use Rattle.apex_views.proofs.sources.svg_of.Goals as goal
 
 pub returns-in-Some-clause-view : goal.returns-in-Some-clause-view
 returns-in-Some-clause-view c =
-    c.planned.ensures.view (svg c.args.window) (option_map departure_said c.args.departure.now) (rw c.in-Some.is at c.in_ok-found.ensures)
+    c.planned.ensures.view (svg c.args.window c.args.axis) (option_map departure_said c.args.departure.now) (rw c.in-Some.is at c.in_ok-found.ensures)
 
 pub returns-in-None-clause-view : goal.returns-in-None-clause-view
-returns-in-None-clause-view c = record { is = refl; none = rw c.in-None.is at c.in_ok-found.ensures }
+returns-in-None-clause-view c = record { axis = c.args.axis; is = refl; none = rw c.in-None.is at c.in_ok-found.ensures }

@@ -3,7 +3,7 @@ use Rattle.apex_search.proofs.Censuses.{IsCounting}
 use Rattle.apex_search.proofs.systems.TableSystem.census.Given as goal
 
 abbrev pub invariant-loop-found : goal.invariant-loop-found
-invariant-loop-found l = IsCounting l.fn.self l.self l.search l.found.items
+invariant-loop-found g l = IsCounting l.fn.self l.self l.search l.found.items
 
 abbrev pub decreases-loop-found : goal.decreases-loop-found
-decreases-loop-found l = length l.self.question.facts
+decreases-loop-found g l = length l.self.question.facts

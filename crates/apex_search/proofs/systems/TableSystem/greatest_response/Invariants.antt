@@ -5,8 +5,8 @@ use Rattle.apex_search.proofs.Responses.{IsRising}
 use Rattle.apex_search.proofs.systems.TableSystem.greatest_response.Given as goal
 
 abbrev pub invariant-loop-found : goal.invariant-loop-found
-invariant-loop-found l =
+invariant-loop-found g l =
     (system : Searched) → l.fn.self ≡ responding system l.process 0 → IsRising system l.self l.process l.least l.search l.found
 
 abbrev pub decreases-loop-found : goal.decreases-loop-found
-decreases-loop-found l = 2 ^ 33 - l.least
+decreases-loop-found g l = 2 ^ 33 - l.least

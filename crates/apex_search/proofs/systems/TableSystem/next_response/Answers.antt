@@ -6,15 +6,15 @@ use Rattle.apex_search.proofs.Responses.{now_below, now_below_within, now_beyond
 use Rattle.apex_search.proofs.systems.TableSystem.next_response.Goals as goal
 
 pub returns-in-Closed : goal.returns-in-Closed
-returns-in-Closed c system same =
+returns-in-Closed g c system same =
     now_below system c.args.self.now c.args.process c.args.least same (rw c.in-Closed.is at c.in_ok-path.ensures.says)
 
 pub returns-in-Full : goal.returns-in-Full
-returns-in-Full c system same =
+returns-in-Full g c system same =
     now_below_within system c.args.self.now c.args.process c.args.least same c.in-Full.depth (rw c.in-Full.is at c.in_ok-path.ensures.says)
 
 pub returns-then-len-limit : goal.returns-then-len-limit
-returns-then-len-limit c system same =
+returns-then-len-limit g c system same =
     let limit : c.limit-limit.result ≡ system.table.limit =
     c.limit-limit.ensures.value ∙ ap (λ (t : Table). t.limit) (c.table.ensures ∙ ap (λ (s : Searched). s.table) same) in
     let past : c.limit-limit.result < length c.in-Found.path.items = omega (arith, c.len.ensures, c.if-len-limit.true) in (
@@ -24,7 +24,7 @@ returns-then-len-limit c system same =
     )
 
 pub returns-then-response-from : goal.returns-then-response-from
-returns-then-response-from c system same =
+returns-then-response-from g c system same =
     let limit : c.limit-limit.result ≡ system.table.limit =
     c.limit-limit.ensures.value ∙ ap (λ (t : Table). t.limit) (c.table.ensures ∙ ap (λ (s : Searched). s.table) same) in
     let few : length c.in-Found.path.items ≤ system.table.limit = omega (arith, c.len.ensures, c.if-len-limit.false, limit) in
@@ -34,7 +34,7 @@ returns-then-response-from c system same =
     (rw c.as_slice.ensures.value at c.in_ok-schedule.ensures) past few
 
 pub returns : goal.returns
-returns c system same =
+returns g c system same =
     let limit : c.limit-limit.result ≡ system.table.limit =
     c.limit-limit.ensures.value ∙ ap (λ (t : Table). t.limit) (c.table.ensures ∙ ap (λ (s : Searched). s.table) same) in
     let few : length c.in-Found.path.items ≤ system.table.limit = omega (arith, c.len.ensures, c.if-len-limit.false, limit) in

@@ -1,2 +1,0 @@
--- What the systems of the tests do.
-pub mod Jugs

@@ -1,0 +1,139 @@
+//! The places of the columns of a picture along its axis.
+ghost use Rattle.std.specs.Prelude.{◌≡◌, All};
+ghost use Rattle.apex_dispatch.specs.Kernel.{kernel_in};
+ghost use Rattle.apex_machine.specs.Events.{IsWithin};
+ghost use Rattle.apex_machine.specs.Machine.{opening};
+
+use crate::scans::booted;
+use apex_dispatch::Kernel;
+use apex_history::Counted;
+use apex_pictures::{Axis, Frame, Style, draw};
+use apex_process::QueueStore;
+use apex_table::read_table;
+use apex_types::{CoreId, Event};
+use std::alloc::Global;
+use std::mem::drop;
+use std::process::Abort;
+
+/// The init steps create the process, bind it to its core, start it and begin NORMAL: entries 1 to 4.
+const TABLE: &str = r#"
+cores = 1
+
+[[process]]
+name = "P"
+priority = 10
+start = true
+script = ["TIMED_WAIT 22", "GET_MY_ID"]
+"#;
+
+/// Five turns at t=0, then 22 ticks, then a turn.
+fn events() -> [Event; 7]
+    ensures { All (IsWithin 1) result }
+{
+    [
+        Event::Turn(CoreId::new(0)),
+        Event::Turn(CoreId::new(0)),
+        Event::Turn(CoreId::new(0)),
+        Event::Turn(CoreId::new(0)),
+        Event::Turn(CoreId::new(0)),
+        Event::Tick(22),
+        Event::Turn(CoreId::new(0)),
+    ]
+}
+
+/// The kernel of the table of this text before any event. It has one core.
+fn kernel_of<R: Abort>(rt: &R, alloc: Global, text: &str) -> Kernel<QueueStore>
+    ensures cores { result.table.cores ≡ 1 }
+    ensures opened { result ≡ kernel_in result.table (opening result.table) result.store }
+{
+    let table = read_table(alloc, text.as_bytes()).expect(rt, "the table is lawful");
+    assert!(rt; table.cores() == 1);
+    booted(rt, alloc, table)
+}
+
+/// The frame of a run of these events, with its columns along this axis.
+pub(crate) fn frame_of<R: Abort>(
+    rt: &R,
+    alloc: Global,
+    text: &str,
+    axis: Axis,
+    events: &[Event],
+) -> Frame
+    requires { All (IsWithin 1) events.now }
+{
+    let mut kernel = kernel_of(rt, alloc, text);
+    assert!(rt; kernel.run(events).is_ok());
+    let frame = Frame::new(alloc, axis, &kernel, 1, events.len() as u32);
+    drop(kernel);
+    frame.expect(rt, "memory")
+}
+
+/// The picture of the run in this frame.
+pub(crate) fn drawn<R: Abort>(
+    rt: &R,
+    alloc: Global,
+    text: &str,
+    frame: Frame,
+    events: &[Event],
+) -> Vec<u8>
+    requires { All (IsWithin 1) events.now }
+{
+    let mut kernel = kernel_of(rt, alloc, text);
+    let mut picture = Counted::new(Vec::new(alloc));
+    let style = Style::Svg(frame);
+    let done = draw(alloc, &style, &mut kernel, events, &mut picture);
+    drop(kernel);
+    done.expect(rt, "memory");
+    picture.into_inner()
+}
+
+/// Finds each of the texts behind the one before it.
+fn find_in_order<R: Abort>(rt: &R, text: &str, wanted: &[&str]) {
+    let mut rest = text;
+    for part in wanted {
+        let (_, behind) = rest.split_once(*part).expect(rt, "the part");
+        rest = behind;
+    }
+}
+
+#[test]
+fn by_entries_columns_stand_side_by_side(rt: HostRuntime) {
+    let events = events();
+    let frame = frame_of(&rt, rt.alloc(), TABLE, Axis::Entries, &events);
+    let picture = drawn(&rt, rt.alloc(), TABLE, frame, &events);
+    let text = str::from_utf8(picture.as_slice()).expect(&rt, "a picture is text");
+    find_in_order(
+        &rt,
+        text,
+        &[
+            "data-entry='1' transform='translate(57,0)'",
+            "data-entry='5' transform='translate(185,0)'",
+            "' width='32' height='16'><title>1 P WAITING",
+            "data-entry='6' transform='translate(217,0)'",
+            "data-entry='7' transform='translate(249,0)'",
+        ],
+    );
+}
+
+/// The left edge is at 57: 50, and 7 for a letter. A column has 32 pixels, and each of 22 ticks 8
+/// pixels, 176 in all: they are room of the column before the tick, in which the process waits.
+#[test]
+fn by_time_the_ticks_have_room(rt: HostRuntime) {
+    let events = events();
+    let frame = frame_of(&rt, rt.alloc(), TABLE, Axis::Time, &events);
+    let picture = drawn(&rt, rt.alloc(), TABLE, frame, &events);
+    let text = str::from_utf8(picture.as_slice()).expect(&rt, "a picture is text");
+    find_in_order(
+        &rt,
+        text,
+        &[
+            "data-entry='1' transform='translate(57,0)'",
+            "data-entry='5' transform='translate(185,0)'",
+            "' width='208' height='16'><title>1 P WAITING",
+            "data-entry='6' transform='translate(393,0)'",
+            ">t=22</text>",
+            "' width='32' height='16'><title>1 P RUNNING",
+            "data-entry='7' transform='translate(425,0)'",
+        ],
+    );
+}

@@ -1,5 +1,0 @@
-use Rattle.apex_lint.proofs.Refusals.{aperiodic_waits}
-use Rattle.apex_lint.proofs.reasons.aperiodic_waits_are_refused.Goals as goal
-
-pub returns : goal.returns
-returns c = aperiodic_waits

@@ -1,5 +1,0 @@
-use Rattle.apex_lint.proofs.Refusals.{resumes, suspends, suspensions}
-use Rattle.apex_lint.proofs.reasons.periodic_processes_are_not_suspended.Goals as goal
-
-pub returns : goal.returns
-returns c = record { by_itself = suspensions; by_another = suspends; resumed = resumes }

@@ -1,5 +1,0 @@
-use Rattle.apex_lint.proofs.Refusals.{sends, displays}
-use Rattle.apex_lint.proofs.reasons.unfit_messages_are_refused.Goals as goal
-
-pub returns : goal.returns
-returns c = record { sends = sends; displays = displays }

@@ -1,0 +1,3 @@
+-- What the systems of the tests do.
+pub mod Counters
+pub mod Jugs

@@ -1,0 +1,113 @@
+//! A search of a system whose answers are known: two jugs are filled, emptied and poured into each
+//! other until one holds what is wanted.
+ghost use Rattle.std.specs.Prelude.{◌≡◌, ◌≤◌};
+ghost use Rattle.apex_search_trials.specs.Jugs.{poured};
+
+use apex_explore::{Answer, NoWatch, System, Taken, explore};
+use std::alloc::{AllocError, Global};
+use std::process::Abort;
+
+/// How much each jug can hold, and what is wanted in one of them.
+#[derive(Drop)]
+struct Puzzle {
+    small: u64,
+    large: u64,
+    wanted: u64,
+}
+
+impl Puzzle {
+    /// What the jugs hold after a choice.
+    fn poured(&self, small: u64, large: u64, choice: u32) -> (u64, u64)
+        requires small { small ≤ self.now.small }
+        requires large { large ≤ self.now.large }
+        ensures { result ≡ poured self.now.small self.now.large small large choice }
+    {
+        let on = small.min(self.large - large);
+        let back = large.min(self.small - small);
+        match choice {
+            0 => (self.small, large),
+            1 => (small, self.large),
+            2 => (0, large),
+            3 => (small, 0),
+            4 => (small - on, large + on),
+            _ => (small + back, large - back),
+        }
+    }
+}
+
+impl System for Puzzle {
+    ghost use Rattle.std.specs.Prelude.{◌≤◌, [], ◌∷◌, slice_index};
+    ghost use Rattle.apex_search_trials.specs.Jugs.{pour};
+
+    type Workspace = ();
+
+    ghost word_count = { λ _. 2 };
+
+    ghost choice_count = { λ _. 6 };
+
+    ghost start = { λ _. 0 ∷ 0 ∷ [] };
+
+    ghost step = { λ p. pour p.small p.large p.wanted };
+
+    ghost is_state = { λ p words. (slice_index words 0 ≤ p.small) × (slice_index words 1 ≤ p.large) };
+
+    fn width(&self) -> usize {
+        2
+    }
+
+    fn choices(&self) -> u32 {
+        6
+    }
+
+    fn workspace(&self, _alloc: Global) -> Result<(), AllocError> {
+        Ok(())
+    }
+
+    fn first(&self, state: &mut [u64]) {
+        state.copy_from_slice(&[0, 0]);
+    }
+
+    fn enter(&self, _workspace: &mut (), _state: &[u64]) {}
+
+    fn next(&self, _workspace: &mut (), state: &[u64], choice: u32, next: &mut [u64]) -> Taken {
+        let (small, large) = self.poured(state[0], state[1], choice);
+        if small == state[0] && large == state[1] {
+            return Taken::Refused;
+        }
+        if small == self.wanted || large == self.wanted {
+            return Taken::Hit;
+        }
+        next.copy_from_slice(&[small, large]);
+        Taken::Next
+    }
+}
+
+fn answer_to<R: Abort>(rt: &R, alloc: Global, puzzle: Puzzle, room: u32) -> Answer {
+    explore(alloc, &puzzle, room, &mut NoWatch).expect(rt, "memory")
+}
+
+/// With jugs of 3 and 5 it takes six choices to have 4. Jugs of 2 and 6 never hold an odd amount, and
+/// come to eight states. With room for five states the search of the first puzzle ends early.
+#[test]
+fn jugs_are_poured(rt: HostRuntime) {
+    let alloc = rt.alloc();
+    let three_and_five = Puzzle {
+        small: 3,
+        large: 5,
+        wanted: 4,
+    };
+    let path = vec![in alloc; 1, 5, 2, 5, 1, 5].expect(&rt, "memory");
+    assert!(&rt; answer_to(&rt, alloc, three_and_five, 1000) == Answer::Found(path));
+    let even = Puzzle {
+        small: 2,
+        large: 6,
+        wanted: 3,
+    };
+    assert!(&rt; answer_to(&rt, alloc, even, 8) == Answer::Closed { states: 8 });
+    let again = Puzzle {
+        small: 3,
+        large: 5,
+        wanted: 4,
+    };
+    assert!(&rt; answer_to(&rt, alloc, again, 5) == Answer::Full { depth: 1 });
+}

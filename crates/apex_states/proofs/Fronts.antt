@@ -1,0 +1,26 @@
+-- Lists that go on others.
+use Rattle.std.proofs.Common.{◌≡◌, ℕ, zero, suc, ◌<◌, List, [], ◌∷◌, ◌++◌, length, length-append, Some, sym, ◌∙◌, arith, get_or}
+use Rattle.std.proofs.lemmas.Option.{slice_get-get_or}
+use Rattle.std.specs.List.{slice_get}
+use Rattle.apex_states.specs.Lists.{IsFront}
+
+pub IsFront-refl : {X : Type 0} (xs : List X) → IsFront xs xs
+IsFront-refl xs = record { same = λ _ _ h. h; longer = omega arith }
+
+pub IsFront-trans : {X : Type 0} {xs ys zs : List X} → IsFront xs ys → IsFront ys zs → IsFront xs zs
+IsFront-trans f g = record { same = λ i x h. g.same i x (f.same i x h); longer = omega arith }
+
+pub IsFront-push : {X : Type 0} (xs : List X) (y : X) → IsFront xs (xs ++ y ∷ [])
+IsFront-push xs y = record { same = same xs; longer = simp length-append (omega arith) }
+  where
+    same : (xs : List _) (i : ℕ) (x : _) → slice_get xs i ≡ Some x → slice_get (xs ++ y ∷ []) i ≡ Some x
+    same [] i x h = cc
+    same (z ∷ zs) zero x h = h
+    same (z ∷ zs) (suc i) x h = same zs i x h
+
+-- A key of the new list at a place of the old one is the old one's.
+pub at_old_place : {X : Type 0} (old new : List X) (place : ℕ) (x : X) → IsFront old new → place < length old → slice_get new place ≡ Some x → slice_get old place ≡ Some x
+at_old_place old new place x front within is =
+    let was = slice_get-get_or old place x within in
+    let same : Some (get_or old place x) ≡ Some x = sym (front.same place (get_or old place x) was) ∙ is in
+    was ∙ same

@@ -1,0 +1,42 @@
+use Rattle.std.proofs.Common.{◌≡◌, suc, ◌+◌, ◌-◌, ◌*◌, ◌<◌, length, ap, ◌∙◌, arith}
+use Rattle.apex_states.specs.Nodes.{IsTree, spread}
+use Rattle.apex_states.proofs.Trees.{halves_whole, known_halves, spread-less, tree_halves, IsHeld-refl, IsTree-found, Joins-halves, Joins-single}
+use Rattle.apex_states.proofs.nodes.Nodes.+finds.Goals as goal
+
+pub find_like-find_halves_like-requires : goal.find_like-find_halves_like-requires
+find_like-find_halves_like-requires t c =
+    let row = c.row.result.now in
+    let e : c.args.depth ≡ suc (c.args.depth - 1) = omega (arith, c.if-depth-eq0.false) in
+    let one : length row ≡ 1 = c.row.ensures.width ∙ c.requires.exact.one in
+    let joins = tree_halves c.args.self.now c.args.depth (c.args.depth - 1) c.args.number row c.args.known.now e c.row.ensures.row c.requires.known in
+    let known = Joins-single (IsTree c.args.self.now (c.args.depth - 1)) row c.args.known.now one joins in
+    let words = c.requires.words ∙ spread-less c.args.self.now.parts.width c.args.depth (c.args.depth - 1) e in
+    let smaller : 2 * (c.args.depth - 1) + 1 < t = omega (arith, c.decreases, c.if-depth-eq0.false) in
+    (smaller, (c.requires.exact, (words, (c.requires.long, known))))
+
+pub find_like-returns : goal.find_like-returns
+find_like-returns t c =
+    let e : suc (c.args.depth - 1) ≡ c.args.depth = omega (arith, c.if-depth-eq0.false) in
+    IsTree-found c.args.self.now c.args.depth (c.args.depth - 1) c.in_ok-word.word c.args.words.now c.find-2.result e c.find-2.ensures.found c.in_ok-word.ensures
+
+pub find_halves_like-find_like-requires-2 : goal.find_halves_like-find_like-requires-2
+find_halves_like-find_like-requires-2 t c =
+    let back = c.split_at.result.1.now in
+    let known_front = c.split_at-2.result.0.now in
+    let known_back = c.split_at-2.result.1.now in
+    let halves : length known_front ≡ length known_back = omega (arith, c.split_at-2.ensures.front_len, c.split_at-2.ensures.back_len, c.requires.long, c.requires.words) in
+    let whole = halves_whole c.args.known.now known_front known_back _ c.split_at-2.ensures.front c.split_at-2.ensures.back in
+    let trees = known_halves (IsTree c.args.self.now c.args.depth) c.args.pair c.of-pair.result.left c.of-pair.result.right c.args.known.now known_front known_back c.requires.known halves whole c.of-pair.ensures.left c.of-pair.ensures.right in
+    let words : length back ≡ spread c.args.self.now.parts.width c.args.depth = omega (arith, c.split_at.ensures.front_len, c.split_at.ensures.back_len, c.requires.words) in
+    let long : length known_back ≡ length back = omega (arith, c.split_at-2.ensures.front_len, c.split_at-2.ensures.back_len, c.split_at.ensures.front_len, c.split_at.ensures.back_len, c.requires.long, c.requires.words) in
+    let smaller : 2 * c.args.depth < t = omega (arith, c.decreases) in
+    (smaller, (c.requires.exact, (words, (long, trees.1))))
+
+pub find_halves_like-returns : goal.find_halves_like-returns
+find_halves_like-returns t c =
+    let front = c.split_at.result.0.now in
+    let back = c.split_at.result.1.now in
+    let halves : length front ≡ length back = omega (arith, c.split_at.ensures.front_len, c.split_at.ensures.back_len, c.requires.words) in
+    Joins-halves c.args.self.now c.args.self.now c.args.depth c.in_ok-left.left c.in_ok-right.right c.word.result c.args.words.now front back
+    (IsHeld-refl c.args.self.now) c.in_ok-left.ensures c.in_ok-right.ensures c.word.ensures.left c.word.ensures.right halves
+    (halves_whole c.args.words.now front back _ c.split_at.ensures.front c.split_at.ensures.back)

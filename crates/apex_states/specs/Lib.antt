@@ -1,0 +1,7 @@
+pub mod Finds
+pub mod Index
+pub mod Lists
+pub mod Nodes
+pub mod Registers
+pub mod Rows
+pub mod States

@@ -1,0 +1,32 @@
+//! States that were found are kept.
+ghost use Rattle.std.specs.Prelude.{◌≡◌, ℕ, ◌<◌, length, slice_get, Some, IfOk};
+ghost use Rattle.apex_states.specs.Finds.{AreKept};
+
+use crate::finds::Finds;
+use crate::states::{Origin, States};
+use std::alloc::{AllocError, Global};
+
+/// Keeps the states that were found, in order, until there is no room for one: false then. `state` has
+/// room for the words of one. Fails only for want of memory.
+pub fn keep_all(
+    alloc: Global,
+    states: &mut States,
+    state: &mut [u64],
+    finds: &Finds,
+) -> Result<bool, AllocError>
+    requires paired { length states.old.origins ≡ length states.old.states }
+    requires width { finds.now.width ≡ states.old.width }
+    requires state { length state.old ≡ states.old.width }
+    requires parents { (place : ℕ) (origin : Origin) → slice_get finds.now.origins place ≡ Some origin
+        → origin.parent < length states.old.states }
+    ensures { IfOk result (AreKept finds.now states.old states.new) }
+{
+    for place in 0..finds.len() {
+        let origin = finds.origin(place);
+        states.restore(origin.parent as usize, state);
+        if !states.keep(alloc, finds.state(place), origin)? {
+            return Ok(false);
+        }
+    }
+    Ok(true)
+}

@@ -1,0 +1,15 @@
+//! The states that a search has reached, each once, and where each of them comes from. What states
+//! have in common is kept once.
+#![tactic(auto)]
+
+mod finds;
+mod index;
+mod keeping;
+mod nodes;
+mod registers;
+mod rows;
+mod states;
+
+pub use finds::Finds;
+pub use keeping::keep_all;
+pub use states::{Origin, Reader, States};

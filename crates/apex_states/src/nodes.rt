@@ -1,0 +1,242 @@
+//! Words as trees. A row of words is cut in halves, each half again, and so on down to parts of a
+//! few words. Each part and each pair of halves is kept once, so rows that share halves share their
+//! memory.
+ghost use Rattle.std.specs.Prelude.{◌≡◌, ℕ, ◌+◌, ◌^◌, ◌/◌, ◌%◌, List, [], ◌∷◌, length, IfOk, IfSome};
+ghost use Rattle.apex_states.specs.Nodes.{IsExact, IsHeld, IsTree, Joins, no_nodes, spread};
+
+use crate::registers::Register;
+use std::alloc::{AllocError, Global};
+
+/// The room for parts and for pairs at first.
+const FIRST_ROOM: u32 = 64;
+
+/// The numbers of two halves.
+#[derive(Clone, Copy)]
+struct Pair {
+    left: u32,
+    right: u32,
+}
+
+impl Pair {
+    /// The numbers in a word.
+    fn of(word: u64) -> Pair
+        ensures left { result.left ≡ word / 2 ^ 32 }
+        ensures right { result.right ≡ word % 2 ^ 32 }
+    {
+        Pair {
+            left: (word / 0x1_0000_0000) as u32,
+            right: (word % 0x1_0000_0000) as u32,
+        }
+    }
+
+    /// Both numbers in one word.
+    fn word(self) -> u64
+        ensures left { result / 2 ^ 32 ≡ self.left }
+        ensures right { result % 2 ^ 32 ≡ self.right }
+    {
+        u64::from(self.left) * 0x1_0000_0000 + u64::from(self.right)
+    }
+}
+
+/// The parts of all rows, and the pairs of numbers of two halves. The number of a half that is a
+/// part is that of the part, and else that of its pair.
+#[derive(Drop)]
+pub(crate) struct Nodes {
+    parts: Register,
+    pairs: Register,
+}
+
+impl Nodes {
+    /// No nodes, for parts of `width` words. Fails only for want of memory.
+    pub(crate) fn new(alloc: Global, width: usize) -> Result<Nodes, AllocError>
+        ensures { IfOk result (λ nodes. nodes ≡ no_nodes width FIRST_ROOM) }
+    {
+        Ok(Nodes {
+            parts: Register::new(alloc, width, FIRST_ROOM)?,
+            pairs: Register::new(alloc, 1, FIRST_ROOM)?,
+        })
+    }
+
+    /// The number of the tree of these words. Fails only for want of memory.
+    #[cycle(numbers)]
+    fn number(&mut self, alloc: Global, depth: u32, words: &[u64]) -> Result<u32, AllocError>
+        requires exact { IsExact self.old }
+        requires words { length words.now ≡ spread self.old.parts.width depth }
+        ensures number { IfOk result (λ number. IsTree self.new depth number words.now) }
+        ensures held { IsHeld self.old self.new }
+        ensures exact { IsExact self.new }
+    {
+        if depth == 0 {
+            return self.parts.number(alloc, words);
+        }
+        let word = self.number_halves(alloc, depth - 1, words)?;
+        self.pairs.number(alloc, &[word])
+    }
+
+    /// The numbers of the trees of both halves of these words, in one word; `depth` is that of a
+    /// half. Fails only for want of memory.
+    #[cycle(numbers)]
+    pub(crate) fn number_halves(
+        &mut self,
+        alloc: Global,
+        depth: u32,
+        words: &[u64],
+    ) -> Result<u64, AllocError>
+        requires exact { IsExact self.old }
+        requires words { length words.now
+            ≡ spread self.old.parts.width depth + spread self.old.parts.width depth }
+        ensures halves { IfOk result (λ word.
+            Joins (IsTree self.new depth) (word ∷ []) words.now) }
+        ensures held { IsHeld self.old self.new }
+        ensures exact { IsExact self.new }
+    {
+        let (front, back) = words.split_at(words.len() / 2);
+        let left = self.number(alloc, depth, front)?;
+        let right = self.number(alloc, depth, back)?;
+        Ok(Pair { left, right }.word())
+    }
+
+    /// The number of the tree of these words, which are nearly these known ones: what they have in
+    /// common is not looked up. Fails only for want of memory.
+    #[cycle(likes)]
+    fn number_like(
+        &mut self,
+        alloc: Global,
+        depth: u32,
+        words: &[u64],
+        known: &[u64],
+        number: u32,
+    ) -> Result<u32, AllocError>
+        requires exact { IsExact self.old }
+        requires words { length words.now ≡ spread self.old.parts.width depth }
+        requires long { length known.now ≡ length words.now }
+        requires known { IsTree self.old depth number known.now }
+        ensures number { IfOk result (λ number. IsTree self.new depth number words.now) }
+        ensures held { IsHeld self.old self.new }
+        ensures exact { IsExact self.new }
+    {
+        if depth == 0 {
+            if words == known {
+                return Ok(number);
+            }
+            return self.parts.number(alloc, words);
+        }
+        let pair = self.pairs.row(number as usize)[0];
+        let word = self.number_halves_like(alloc, depth - 1, words, known, pair)?;
+        if word == pair {
+            return Ok(number);
+        }
+        self.pairs.number(alloc, &[word])
+    }
+
+    /// The numbers of the trees of both halves of these words, in one word. They are nearly these
+    /// known ones, whose numbers are in `pair`; `depth` is that of a half. Fails only for want of
+    /// memory.
+    #[cycle(likes)]
+    pub(crate) fn number_halves_like(
+        &mut self,
+        alloc: Global,
+        depth: u32,
+        words: &[u64],
+        known: &[u64],
+        pair: u64,
+    ) -> Result<u64, AllocError>
+        requires exact { IsExact self.old }
+        requires words { length words.now
+            ≡ spread self.old.parts.width depth + spread self.old.parts.width depth }
+        requires long { length known.now ≡ length words.now }
+        requires known { Joins (IsTree self.old depth) (pair ∷ []) known.now }
+        ensures halves { IfOk result (λ word.
+            Joins (IsTree self.new depth) (word ∷ []) words.now) }
+        ensures held { IsHeld self.old self.new }
+        ensures exact { IsExact self.new }
+    {
+        let pair = Pair::of(pair);
+        let (front, back) = words.split_at(words.len() / 2);
+        let (known_front, known_back) = known.split_at(known.len() / 2);
+        let left = self.number_like(alloc, depth, front, known_front, pair.left)?;
+        let right = self.number_like(alloc, depth, back, known_back, pair.right)?;
+        Ok(Pair { left, right }.word())
+    }
+
+    /// The number of the tree of these words, if it is there. They are nearly these known ones: what
+    /// they have in common is not looked up.
+    #[cycle(finds)]
+    fn find_like(&self, depth: u32, words: &[u64], known: &[u64], number: u32) -> Option<u32>
+        requires exact { IsExact self.now }
+        requires words { length words.now ≡ spread self.now.parts.width depth }
+        requires long { length known.now ≡ length words.now }
+        requires known { IsTree self.now depth number known.now }
+        ensures { IfSome result (λ number. IsTree self.now depth number words.now) }
+    {
+        if depth == 0 {
+            if words == known {
+                return Some(number);
+            }
+            return self.parts.find(words);
+        }
+        let pair = self.pairs.row(number as usize)[0];
+        let word = self.find_halves_like(depth - 1, words, known, pair)?;
+        if word == pair {
+            return Some(number);
+        }
+        self.pairs.find(&[word])
+    }
+
+    /// The numbers of the trees of both halves of these words, in one word, if they are there. The
+    /// words are nearly these known ones, whose numbers are in `pair`; `depth` is that of a half.
+    #[cycle(finds)]
+    pub(crate) fn find_halves_like(
+        &self,
+        depth: u32,
+        words: &[u64],
+        known: &[u64],
+        pair: u64,
+    ) -> Option<u64>
+        requires exact { IsExact self.now }
+        requires words { length words.now
+            ≡ spread self.now.parts.width depth + spread self.now.parts.width depth }
+        requires long { length known.now ≡ length words.now }
+        requires known { Joins (IsTree self.now depth) (pair ∷ []) known.now }
+        ensures { IfSome result (λ word.
+            Joins (IsTree self.now depth) (word ∷ []) words.now) }
+    {
+        let pair = Pair::of(pair);
+        let (front, back) = words.split_at(words.len() / 2);
+        let (known_front, known_back) = known.split_at(known.len() / 2);
+        let left = self.find_like(depth, front, known_front, pair.left)?;
+        let right = self.find_like(depth, back, known_back, pair.right)?;
+        Some(Pair { left, right }.word())
+    }
+
+    /// Puts the words of the tree with this number into these.
+    #[cycle(trees)]
+    fn restore(&self, depth: u32, number: u32, words: &mut [u64])
+        requires exact { IsExact self.now }
+        requires tree { (k : List ℕ) × (length k ≡ length words.old)
+            × IsTree self.now depth number k }
+        ensures { IsTree self.now depth number words.new }
+    {
+        if depth == 0 {
+            words.copy_from_slice(self.parts.row(number as usize));
+        } else {
+            self.restore_halves(depth - 1, self.pairs.row(number as usize)[0], words);
+        }
+    }
+
+    /// Puts the words of both trees with the numbers in this word into these; `depth` is that of a
+    /// half.
+    #[cycle(trees)]
+    pub(crate) fn restore_halves(&self, depth: u32, word: u64, words: &mut [u64])
+        requires exact { IsExact self.now }
+        requires halves { (k : List ℕ) × (length k ≡ length words.old)
+            × Joins (IsTree self.now depth) (word ∷ []) k }
+        ensures { Joins (IsTree self.now depth) (word ∷ []) words.new }
+    {
+        let pair = Pair::of(word);
+        let middle = words.len() / 2;
+        let (front, back) = words.split_at_mut(middle);
+        self.restore(depth, pair.left, front);
+        self.restore(depth, pair.right, back);
+    }
+}

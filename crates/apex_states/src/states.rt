@@ -1,0 +1,205 @@
+//! The states that a search has reached, and where each of them comes from.
+ghost use Rattle.std.specs.Prelude.{◌≡◌, ◌^◌, ◌<◌, ◌≤◌, ◌++◌, true, drop, length, slice_get, Some, IfOk};
+ghost use Rattle.apex_states.specs.Registers.{AreApart};
+ghost use Rattle.apex_states.specs.Index.{IsKnown};
+ghost use Rattle.apex_states.specs.States.{no_states, IsKept, IsReader, IsReaderAt};
+
+use crate::nodes::Nodes;
+use crate::registers::{Entered, Register};
+use std::alloc::{AllocError, Global};
+use std::marker::Model;
+
+/// How many pairs lie above a part in each half of a state.
+const DEPTH: u32 = 3;
+
+/// The parts of a state: 2 ^ `DEPTH` in each half.
+const PARTS: usize = 16;
+
+/// Puts these words in place of the first ones.
+fn put_front(words: &mut [u64], front: &[u64])
+    requires { length front.now ≤ length words.old }
+    ensures { words.new ≡ front.now ++ drop (length front.now) words.old }
+{
+    words[..front.len()].copy_from_slice(front);
+}
+
+/// The choice by which a state was found, and the place of the state that it was made in.
+#[derive(Clone, Copy)]
+pub struct Origin {
+    pub parent: u32,
+    pub choice: u32,
+}
+
+/// What a thread needs that reads states, of which other threads may read others at once.
+#[derive(Drop)]
+pub struct Reader {
+    /// The place of the state that was read last.
+    place: usize,
+    /// Its words, and zeros, so that all are cut into equal parts.
+    here: Vec<u64>,
+    /// Room for the words of another one, and zeros.
+    words: Vec<u64>,
+}
+
+/// States in the order in which they were found, each once, and the origin of each.
+///
+/// A state is kept as the pair of the numbers of its halves, and its halves as trees. The room for
+/// the pairs, their index and the origins is taken when the value is made; that for the trees grows.
+#[derive(Drop)]
+pub struct States {
+    width: usize,
+    roots: Register,
+    nodes: Nodes,
+    origins: Vec<Origin>,
+    /// The words of a state, and some more that never change, so that all are cut into equal parts.
+    words: Vec<u64>,
+    /// Those of the state that was restored last. A state that is kept next is nearly this one.
+    here: Vec<u64>,
+    /// The numbers of its halves.
+    pair: u64,
+}
+
+impl Model for States {
+    ghost use Rattle.std.specs.Prelude.{vec_capacity};
+    ghost use Rattle.apex_states.specs.States.{Reached, IsHere, IsStored, states_in};
+
+    ghost Value = { Reached };
+
+    ghost view = { λ s. record {
+      width = s.width;
+      room = s.roots.room;
+      states = states_in s.nodes s.width s.roots.rows;
+      origins = s.origins.items;
+    } };
+
+    ghost invariant = { λ s.
+        IsStored s.width s.roots s.nodes s.origins.items (vec_capacity s.origins) s.words.items
+        × IsHere s.nodes s.words.items s.here.items s.pair };
+}
+
+impl States {
+    /// No states, with room for `room` of them, of `width` words each. Fails only for want of
+    /// memory.
+    pub fn new(alloc: Global, width: usize, room: u32) -> Result<States, AllocError>
+        ensures { IfOk result (λ states. states ≡ no_states width room) }
+    {
+        let part = width / PARTS + 1;
+        let Some(size) = part.checked_mul(PARTS) else {
+            return Err(AllocError);
+        };
+        let roots = Register::new(alloc, 1, room)?;
+        let mut nodes = Nodes::new(alloc, part)?;
+        let words = vec![in alloc; 0; size]?;
+        let here = vec![in alloc; 0; size]?;
+        let pair = nodes.number_halves(alloc, DEPTH, here.as_slice())?;
+        let origins = Vec::with_capacity(alloc, room as usize)?;
+        Ok(States {
+            width,
+            roots,
+            nodes,
+            origins,
+            words,
+            here,
+            pair,
+        })
+    }
+
+    /// The number of states.
+    pub fn len(&self) -> usize
+        ensures len { result ≡ length self.now.states }
+        ensures room { result ≤ self.now.room }
+        ensures few { self.now.room < 2 ^ 32 }
+        ensures apart { AreApart self.now.states }
+    {
+        self.roots.len()
+    }
+
+    /// Puts the words of the state at the place into these.
+    pub fn restore(&mut self, place: usize, state: &mut [u64])
+        requires place { place < length self.old.states }
+        requires width { length state.old ≡ self.old.width }
+        ensures state { slice_get self.old.states place ≡ Some state.new }
+        ensures same { self.new ≡ self.old }
+    {
+        let word = self.roots.row(place)[0];
+        self.nodes
+            .restore_halves(DEPTH, word, self.here.as_mut_slice());
+        self.pair = word;
+        state.copy_from_slice(&self.here.as_slice()[..self.width]);
+    }
+
+    /// The origin of each state.
+    pub fn origins(&self) -> &[Origin]
+        ensures { result.now ≡ self.now.origins }
+    {
+        self.origins.as_slice()
+    }
+
+    /// What a thread needs that reads the states. Fails only for want of memory.
+    pub fn reader(&self, alloc: Global) -> Result<Reader, AllocError>
+        ensures { IfOk result (IsReader self.now.width) }
+    {
+        let size = self.words.len();
+        Ok(Reader {
+            place: 0,
+            here: vec![in alloc; 0; size]?,
+            words: vec![in alloc; 0; size]?,
+        })
+    }
+
+    /// Puts the words of the state at the place into these.
+    pub fn read(&self, reader: &mut Reader, place: usize, state: &mut [u64])
+        requires place { place < length self.now.states }
+        requires reader { IsReader self.now.width reader.old }
+        requires width { length state.old ≡ self.now.width }
+        ensures state { slice_get self.now.states place ≡ Some state.new }
+        ensures reader { IsReaderAt self.now reader.new }
+    {
+        let word = self.roots.row(place)[0];
+        self.nodes
+            .restore_halves(DEPTH, word, reader.here.as_mut_slice());
+        reader.place = place;
+        state.copy_from_slice(&reader.here.as_slice()[..self.width]);
+    }
+
+    /// The state is one of these. It is nearly the one that was read last: what they have in common
+    /// is not looked up.
+    pub fn knows(&self, reader: &mut Reader, state: &[u64]) -> bool
+        requires reader { IsReaderAt self.now reader.old }
+        requires width { length state.now ≡ self.now.width }
+        ensures known { result ≡ true → IsKnown self.now.states state.now }
+        ensures reader { IsReaderAt self.now reader.new }
+    {
+        put_front(reader.words.as_mut_slice(), state);
+        let (words, here) = (reader.words.as_slice(), reader.here.as_slice());
+        let pair = self.roots.row(reader.place)[0];
+        let Some(word) = self.nodes.find_halves_like(DEPTH, words, here, pair) else {
+            return false;
+        };
+        match self.roots.find(&[word]) {
+            Some(_) => true,
+            None => false,
+        }
+    }
+
+    /// Keeps the state as the last one if it is not there yet: false if there is no room for it.
+    /// Fails only for want of memory.
+    pub fn keep(&mut self, alloc: Global, state: &[u64], origin: Origin) -> Result<bool, AllocError>
+        requires { length state.now ≡ self.old.width }
+        ensures { IfOk result (λ kept. IsKept self.old state.now origin kept self.new) }
+    {
+        put_front(self.words.as_mut_slice(), state);
+        let (words, here) = (self.words.as_slice(), self.here.as_slice());
+        let word = self
+            .nodes
+            .number_halves_like(alloc, DEPTH, words, here, self.pair)?;
+        match self.roots.enter(&[word]) {
+            Entered::Known(_) => Ok(true),
+            Entered::New(_) => {
+                self.origins.push_reserved(origin);
+                Ok(true)
+            }
+            Entered::Full => Ok(false),
+        }
+    }
+}

@@ -1,0 +1,165 @@
+//! The warnings that are found, kind by kind.
+ghost use Rattle.std.specs.Prelude.{◌≡◌, ◌<◌, ◌++◌, [], length, IfOk};
+ghost use Rattle.apex_warnings.specs.Warnings.{cores_warned, init_warned, objects_warned, processes_warned, script_warned, steps_warned, warned};
+ghost use Rattle.apex_warnings.specs.Cores.{core_is_unused, some_process_stays};
+
+use crate::acts::Act;
+use crate::objects::Group;
+use crate::process_warnings::ProcessWarning;
+use crate::step_warnings::StepWarning;
+use crate::steps::TableSteps;
+use crate::warnings::Warning;
+use apex_types::{CoreId, Origin, ProcessId};
+use std::alloc::{AllocError, Global};
+use std::marker::Model;
+
+/// The warnings that are found so far.
+#[derive(Drop)]
+pub struct Found {
+    warnings: Vec<Warning>,
+}
+
+impl Model for Found {
+    ghost use Rattle.std.specs.Prelude.{List};
+    ghost use Rattle.apex_warnings.specs.Terms.{Warning};
+
+    ghost Value = { List Warning };
+
+    ghost view = { λ f. f.warnings.items };
+}
+
+/// A process stays on core 0, since no step of the init list binds it to another core.
+fn some_process_stays(steps: &TableSteps) -> bool
+    ensures { result ≡ some_process_stays steps.now }
+{
+    let cores = steps.table().cores();
+    for place in 0..steps.table().process_count() {
+        let process = ProcessId::at(place as u8);
+        if !Act::BindAway(process, cores).is_among(steps.init()) {
+            return true;
+        }
+    }
+    false
+}
+
+fn core_is_unused(steps: &TableSteps, core: CoreId) -> bool
+    ensures { result ≡ core_is_unused steps.now core }
+{
+    !Act::BindTo(core).is_among(steps.init()) && !(core.number() == 0 && some_process_stays(steps))
+}
+
+impl Found {
+    /// No warning is found.
+    pub fn new(alloc: Global) -> Found
+        ensures { result ≡ [] }
+    {
+        Found {
+            warnings: Vec::new(alloc),
+        }
+    }
+
+    pub fn into_warnings(self) -> Vec<Warning>
+        ensures { result.items ≡ self }
+    {
+        self.warnings
+    }
+
+    /// Adds the warning if it applies.
+    fn add(&mut self, applies: bool, warning: Warning) -> Result<(), AllocError>
+        ensures { IfOk result (λ _. self.new ≡ self.old ++ warned applies warning) }
+    {
+        if applies {
+            // The push copies the warning, and a type within it is wanted by name here.
+            if let Warning::Step(_, origin) = &warning {
+                let _origin = origin;
+            }
+            self.warnings.push(warning)?;
+        }
+        Ok(())
+    }
+
+    /// Adds the warnings of this kind about processes.
+    pub fn add_processes(
+        &mut self,
+        steps: &TableSteps,
+        warning: ProcessWarning,
+    ) -> Result<(), AllocError>
+        ensures { IfOk result (λ _. self.new ≡ self.old ++ processes_warned steps.now warning) }
+    {
+        for place in 0..steps.table().process_count() {
+            let process = ProcessId::at(place as u8);
+            let applies = warning.is_about(steps, process);
+            self.add(applies, Warning::Process(warning, process))?;
+        }
+        Ok(())
+    }
+
+    /// Adds the warnings of this kind about steps of the init list.
+    fn add_init(&mut self, steps: &TableSteps, warning: StepWarning) -> Result<(), AllocError>
+        ensures { IfOk result (λ _. self.new ≡ self.old ++ init_warned steps.now warning) }
+    {
+        let calls = steps.init();
+        for (place, call) in calls.iter().enumerate() {
+            let applies = warning.is_about_init(steps.table(), call.call());
+            self.add(applies, Warning::Step(warning, Origin::Init(place as u16)))?;
+        }
+        Ok(())
+    }
+
+    /// Adds the warnings of this kind about steps of the process's script.
+    fn add_script(
+        &mut self,
+        steps: &TableSteps,
+        warning: StepWarning,
+        process: ProcessId,
+    ) -> Result<(), AllocError>
+        requires { process < length steps.now.processes }
+        ensures { IfOk result (λ _. self.new ≡ self.old
+            ++ script_warned steps.now warning process) }
+    {
+        let calls = steps.script(process);
+        for (place, call) in calls.iter().enumerate() {
+            let applies = warning.is_about(steps, process, place, call.call());
+            self.add(
+                applies,
+                Warning::Step(warning, Origin::Script(process, place as u8)),
+            )?;
+        }
+        Ok(())
+    }
+
+    /// Adds the warnings of this kind about steps of the init list, and of the scripts in order.
+    pub fn add_steps(&mut self, steps: &TableSteps, warning: StepWarning) -> Result<(), AllocError>
+        ensures { IfOk result (λ _. self.new ≡ self.old ++ steps_warned steps.now warning) }
+    {
+        self.add_init(steps, warning)?;
+        for place in 0..steps.table().process_count() {
+            self.add_script(steps, warning, ProcessId::at(place as u8))?;
+        }
+        Ok(())
+    }
+
+    /// Adds a warning for each unused object of the group.
+    pub fn add_objects(&mut self, steps: &TableSteps, group: Group) -> Result<(), AllocError>
+        ensures { IfOk result (λ _. self.new ≡ self.old ++ objects_warned steps.now group) }
+    {
+        for place in 0..group.count(steps.table()) {
+            let place = place as u8;
+            let applies = !steps.have(&Act::Use(group.queue(place)));
+            self.add(applies, Warning::UnusedObject(group, place))?;
+        }
+        Ok(())
+    }
+
+    /// Adds a warning for each unused core.
+    pub fn add_cores(&mut self, steps: &TableSteps) -> Result<(), AllocError>
+        ensures { IfOk result (λ _. self.new ≡ self.old ++ cores_warned steps.now) }
+    {
+        for number in 0..steps.table().cores() {
+            let core = CoreId::new(number);
+            let applies = core_is_unused(steps, core);
+            self.add(applies, Warning::UnusedCore(core))?;
+        }
+        Ok(())
+    }
+}
