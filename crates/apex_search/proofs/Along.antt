@@ -15,16 +15,21 @@ use Rattle.apex_alike.specs.Canonical.{canonical_roster}
 use Rattle.apex_pace.specs.Laws.{IsPace}
 use Rattle.apex_pace.specs.Pace.{Paced, paced_opening, paced_run, paced_step}
 use Rattle.apex_search.specs.Answers.{SaysOfSchedules, events_along, event_and_later, schedule_of}
-use Rattle.apex_search.specs.Counts.{IsSameOnCores, IsSamePaced}
-use Rattle.apex_search.specs.Forms.{canonical_paced}
-use Rattle.apex_search.specs.Laws.{FormsHaveWords, FormsReach, FormsStandFor, StandsFor, StepsFor, WordsAreExact}
-use Rattle.apex_search.specs.Reached.{IsReached}
+use Rattle.apex_choices.specs.Counts.{IsSameOnCores, IsSamePaced}
+use Rattle.apex_forms.specs.Forms.{canonical_paced}
+use Rattle.apex_forms.specs.Laws.{FormsHaveWords, FormsReach, WordsAreExact}
+use Rattle.apex_search.specs.Laws.{FormsStandFor, StandsFor, StepsFor}
+use Rattle.apex_forms.specs.Reached.{IsReached}
 use Rattle.apex_search.specs.Worst.{IsFormAfter}
-use Rattle.apex_search.specs.Steps.{FormsAreReady, IsFormed, Searched, choices_of, event_of, search_start, search_step}
+use Rattle.apex_forms.specs.Formed.{FormsAreReady, IsFormed}
+use Rattle.apex_search.specs.Steps.{Searched, choices_of, search_start, search_step}
+use Rattle.apex_choices.specs.Choices.{event_of}
 use Rattle.apex_search.specs.Terms.{Event, Pace}
-use Rattle.apex_search.proofs.Schedules.{Stand, event_allowed, says_of_schedules}
+use Rattle.apex_search.proofs.Schedules.{Stand, says_of_schedules}
+use Rattle.apex_choices.proofs.Short.{event_allowed}
 use Rattle.apex_search.proofs.Shifted.{form_event}
-use Rattle.apex_search.proofs.Stepping.{form_is, paced_is}
+use Rattle.apex_search.proofs.Stepping.{form_is}
+use Rattle.apex_choices.proofs.Same.{paced_is}
 
 -- some choices of the path were made: the situation is in a canonical form that represents the one to
 -- which their events lead, and the other choices give the events that are left

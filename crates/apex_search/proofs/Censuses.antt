@@ -6,17 +6,18 @@ use Rattle.std.proofs.lemmas.Option.{same_Some}
 use Rattle.std.specs.List.{list_any, slice_get}
 use Rattle.apex_explore.specs.Paths.{IsHit}
 use Rattle.apex_explore.specs.Searches.{Weakens}
-use Rattle.apex_explore.specs.Systems.{Step, refuses, hits}
+use Rattle.apex_explore.specs.Systems.{refuses, hits}
 use Rattle.apex_explore.specs.declared.searches.Search.{Search}
 use Rattle.apex_explore.proofs.Weaker.{Leads-weaker}
 use Rattle.apex_machine.specs.Deeds.{Deed}
 use Rattle.apex_machine.specs.Situations.{deed}
-use Rattle.apex_pace.specs.Pace.{Paced, paced_opening, paced_run}
+use Rattle.apex_pace.specs.Pace.{Paced}
 use Rattle.apex_search.specs.Answers.{IsShortestSchedule, LeadsToFact, schedule_of}
 use Rattle.apex_search.specs.Census.{AreFindings, EndSays, IsCensus, IsFinding, IsOneOf, IsSearchOf, alone, asking, facts_of, makes, without}
 use Rattle.apex_search.specs.Facts.{Shown, has_fact, has_one, is_code, is_fact, shown_of}
-use Rattle.apex_search.specs.Restored.{paced_from}
-use Rattle.apex_search.specs.Steps.{Searched, choices_of, event_of, search_start, search_step, step_by}
+use Rattle.apex_forms.specs.Restored.{paced_from}
+use Rattle.apex_search.specs.Steps.{Searched, choices_of, step_by}
+use Rattle.apex_choices.specs.Choices.{event_of}
 use Rattle.apex_search.specs.Terms.{Event, Fact, Question, ReturnCode}
 use Rattle.apex_search.proofs.Narrower.{narrower_weakens, search_narrower, wider}
 use Rattle.apex_search.specs.declared.census.Census.{Census}

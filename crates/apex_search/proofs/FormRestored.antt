@@ -8,16 +8,18 @@ use Rattle.apex_machine.specs.table.Table.{IsLawful, Table}
 use Rattle.apex_machine.specs.services.ProcessServices.{ProcessObject}
 use Rattle.apex_pace.specs.Laws.{IsPace}
 use Rattle.apex_pace.specs.Pace.{Paced}
-use Rattle.apex_search.specs.Counts.{IsSamePaced, StoredPaced, paced_in}
-use Rattle.apex_search.specs.Forms.{canonical_paced}
-use Rattle.apex_search.specs.Laws.{WordsAreExact}
-use Rattle.apex_search.specs.Restored.{IsOfTable, IsStored, paced_from}
-use Rattle.apex_search.specs.Steps.{FormsAreReady, IsChosen, IsForm, IsFormed, IsIn, IsWorkplace, Searched, event_of, search_step, step_by}
+use Rattle.apex_choices.specs.Counts.{IsSamePaced, StoredPaced, paced_in}
+use Rattle.apex_forms.specs.Forms.{canonical_paced}
+use Rattle.apex_forms.specs.Laws.{WordsAreExact}
+use Rattle.apex_forms.specs.Restored.{IsOfTable, IsStored, paced_from}
+use Rattle.apex_forms.specs.Formed.{FormsAreReady, IsForm, IsFormed}
+use Rattle.apex_choices.specs.Choices.{IsChosen, event_of}
+use Rattle.apex_search.specs.Steps.{IsIn, IsWorkplace, Searched, search_step, step_by}
 use Rattle.apex_machine.specs.Events.{IsWithin}
 use Rattle.apex_search.specs.Terms.{Event, Pace}
 use Rattle.apex_search.specs.declared.systems.Workplace.{Workplace}
-use Rattle.apex_search.proofs.SamePaced.{paced_then}
-use Rattle.apex_search.proofs.Stepping.{paced_is}
+use Rattle.apex_choices.proofs.Same.{paced_then}
+use Rattle.apex_choices.proofs.Same.{paced_is}
 
 module _ (pace : Pace) (is_pace : IsPace pace) (few : pace.turns < 2 ^ 32) (table : Table) (lawful : IsLawful table) (words : List ℕ)
     (state : IsForm pace table words) where

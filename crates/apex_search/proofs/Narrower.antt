@@ -11,8 +11,9 @@ use Rattle.apex_pace.specs.Pace.{Paced, paced_opening, paced_run}
 use Rattle.apex_search.specs.Answers.{LeadsToFact}
 use Rattle.apex_search.specs.Census.{IsSearchOf, makes}
 use Rattle.apex_search.specs.Facts.{has_fact}
-use Rattle.apex_search.specs.Restored.{paced_from}
-use Rattle.apex_search.specs.Steps.{Searched, choices_of, event_of, search_start, search_step, step_by}
+use Rattle.apex_forms.specs.Restored.{paced_from}
+use Rattle.apex_search.specs.Steps.{Searched, choices_of, search_start, search_step, step_by}
+use Rattle.apex_choices.specs.Choices.{event_of}
 use Rattle.apex_search.specs.Terms.{Event, Question}
 use Rattle.apex_search.specs.declared.systems.Workplace.{Workplace}
 

@@ -8,7 +8,6 @@ use Rattle.std.specs.List.{All}
 use Rattle.std.specs.Option.{ForSome}
 use Rattle.apex_alike.proofs.Chains.{unmoved}
 use Rattle.apex_alike.specs.Alike.{AreAlike, IsLater, ServesAs, ServesFor}
-use Rattle.apex_explore.specs.declared.answers.Answer.{Answer}
 use Rattle.apex_explore.specs.declared.answers.Answer.TheVariants as answers
 use Rattle.apex_explore.specs.declared.searches.Search.{Search}
 use Rattle.apex_machine.specs.Deeds.{Deed}
@@ -16,12 +15,12 @@ use Rattle.apex_machine.specs.Events.{IsWithin}
 use Rattle.apex_machine.specs.Situations.{deed}
 use Rattle.apex_machine.specs.processes.Periods.{IsReleased, awaits_first}
 use Rattle.apex_machine.specs.processes.Roster.{Roster, record_at}
-use Rattle.apex_pace.specs.Pace.{KeepsPace, Paced, paced_opening, paced_run, paced_step}
-use Rattle.apex_search.specs.Answers.{IsShortestSchedule, LeadsToFact, NoSchedule, NoScheduleWithin, SaysOfSchedules, event_and_later, events_along, schedule_of}
+use Rattle.apex_pace.specs.Pace.{KeepsPace, Paced, paced_opening, paced_run}
+use Rattle.apex_search.specs.Answers.{IsShortestSchedule, LeadsToFact, NoSchedule, NoScheduleWithin, schedule_of}
 use Rattle.apex_search.specs.Census.{IsSearchOf}
 use Rattle.apex_search.specs.Facts.{Shown, has_fact, has_one, is_age, is_blocked, is_periodic_wait, shown, shown_of}
-use Rattle.apex_search.specs.Forms.{canonical_paced}
-use Rattle.apex_search.specs.Steps.{Searched, event_of}
+use Rattle.apex_forms.specs.Forms.{canonical_paced}
+use Rattle.apex_search.specs.Steps.{Searched}
 use Rattle.apex_search.specs.Terms.{Call, Caller, Event, Notice, Question, Record, Reply}
 use Rattle.apex_search.specs.Worst.{AllBelow, AllBelowWithin, EndsJob, IsFormAfter, IsJobOf, IsOverrun, IsSlower, IsSlowest, LeadsToResponse, above, last_job, responding}
 use Rattle.apex_search.specs.declared.facts.Fact.TheVariants.{Response}
@@ -29,7 +28,7 @@ use Rattle.apex_search.specs.declared.systems.Workplace.{Workplace}
 use Rattle.apex_search.specs.declared.worst.Job.{Job}
 use Rattle.apex_search.specs.declared.worst.Slowest.{Slowest}
 use Rattle.apex_search.proofs.Along.{run_push}
-use Rattle.apex_search.proofs.Narrower.{IsNarrower, search_narrower, with_question}
+use Rattle.apex_search.proofs.Narrower.{IsNarrower, search_narrower}
 use Rattle.apex_types.specs.declared.calls.Call.TheVariants.{Time}
 use Rattle.apex_types.specs.declared.calls.TimeCall.TheVariants.{PeriodicWait}
 use Rattle.apex_types.specs.declared.entries.Caller.TheVariants as callers

@@ -9,43 +9,22 @@ use Rattle.apex_explore.specs.Systems.{Step, goes, hits, refuses, step_within}
 use Rattle.apex_explore.specs.declared.answers.Answer.{Answer}
 use Rattle.apex_explore.specs.declared.answers.Answer.TheVariants.{Found, Closed, Full}
 use Rattle.apex_machine.specs.Situations.{deed}
-use Rattle.apex_machine.specs.processes.Dues.{is_instant}
 use Rattle.apex_machine.specs.table.Table.{Table}
 use Rattle.apex_pace.specs.Pace.{KeepsPace, Paced, is_allowed, may_turn, next_tick, paced_opening, paced_run, paced_step}
 use Rattle.apex_search.specs.Answers.{LeadsToFact, SaysOfSchedules, event_and_later, events_along, schedule_of}
 use Rattle.apex_search.specs.Facts.{has_fact}
-use Rattle.apex_search.specs.Forms.{canonical_paced}
-use Rattle.apex_search.specs.Counts.{IsSamePaced}
-use Rattle.apex_search.specs.Laws.{FormsHaveWords, StandsFor, StepsFor}
-use Rattle.apex_search.specs.Restored.{paced_from}
-use Rattle.apex_search.specs.Steps.{Searched, choices_of, event_of, form_words, search_start, search_step, step_by}
+use Rattle.apex_forms.specs.Forms.{canonical_paced}
+use Rattle.apex_choices.specs.Counts.{IsSamePaced}
+use Rattle.apex_forms.specs.Laws.{FormsHaveWords}
+use Rattle.apex_search.specs.Laws.{StandsFor, StepsFor}
+use Rattle.apex_forms.specs.Restored.{paced_from}
+use Rattle.apex_search.specs.Steps.{Searched, choices_of, search_start, search_step, step_by}
+use Rattle.apex_choices.specs.Choices.{event_of}
+use Rattle.apex_forms.specs.Formed.{form_words}
 use Rattle.apex_search.specs.Terms.{Event, Pace}
-use Rattle.apex_search.proofs.SamePaced.{same_canonical_paced, same_deed, same_event, same_paced_step}
-use Rattle.apex_search.proofs.Short.{instant_is}
-
--- the event of a choice is allowed
-pub event_allowed : (pace : Pace) (table : Table) (s : Paced) (choice : ℕ) (event : Event) → event_of pace table s choice ≡ Some event
-    → is_allowed pace table s event ≡ true
-event_allowed pace table s choice event is = by_core (nat_lt choice table.cores) refl is where
-  by_turn : (may : Bool) → may_turn pace table s choice ≡ may → nat_lt choice table.cores ≡ true
-      → (if may then Some (Turn choice) else None) ≡ Some event → is_allowed pace table s event ≡ true
-  by_turn true may core e =
-      subst (λ (x : Event). is_allowed pace table s x ≡ true) (same_Some (Turn choice) event e)
-      (and_from (nat_lt choice table.cores) (may_turn pace table s choice) core may)
-  by_turn false may core e = absurd (none-some event e)
-
-  by_tick : (found : Option ℕ) → next_tick pace table s ≡ found → option_map Tick found ≡ Some event
-      → is_allowed pace table s event ≡ true
-  by_tick None found e = absurd (none-some event e)
-  by_tick (Some n) found e =
-      subst (λ (x : Event). is_allowed pace table s x ≡ true) (same_Some (Tick n) event e)
-      (ap (is_instant n) found ∙ eq-eqb n n refl)
-
-  by_core : (core : Bool) → nat_lt choice table.cores ≡ core
-      → (if core then (if may_turn pace table s choice then Some (Turn choice) else None) else option_map Tick (next_tick pace table s)) ≡ Some event
-      → is_allowed pace table s event ≡ true
-  by_core true core e = by_turn (may_turn pace table s choice) refl core e
-  by_core false core e = by_tick (next_tick pace table s) refl e
+use Rattle.apex_forms.proofs.SameForms.{same_canonical_paced}
+use Rattle.apex_choices.proofs.Same.{same_deed, same_event, same_paced_step}
+use Rattle.apex_choices.proofs.Short.{instant_is}
 
 -- the choice of an event
 abbrev choice_of : Table → Event → ℕ

@@ -9,13 +9,13 @@ use Rattle.apex_machine.specs.Situations.{due_call}
 use Rattle.apex_machine.specs.processes.Dues.{is_instant, next_instant, sooner}
 use Rattle.apex_machine.specs.table.Table.{Table, call_in}
 use Rattle.apex_pace.specs.Laws.{IsPace}
-use Rattle.apex_pace.specs.Pace.{Paced, all_cores, all_ticks, first_work_end, is_allowed, is_at_work, is_idle, is_quiet, is_settled, is_starting, is_within, least_ticks, may_turn, needs_time, next_moment, next_tick, settled_tick, ticks_to, work_end}
+use Rattle.apex_pace.specs.Pace.{Paced, all_ticks, first_work_end, is_allowed, is_at_work, is_idle, is_quiet, is_settled, is_starting, is_within, least_ticks, may_turn, needs_time, next_moment, next_tick, settled_tick, ticks_to, work_end}
 use Rattle.apex_pace.proofs.Within.{least_all}
 use Rattle.apex_alike.specs.Alike.{AreAlike, later}
 use Rattle.apex_alike.proofs.Choices.{same_chosen, same_next}
-use Rattle.apex_search.specs.Forms.{kept_worked}
+use Rattle.apex_forms.specs.Forms.{kept_worked}
 use Rattle.apex_search.specs.Laws.{StandsFor}
-use Rattle.apex_search.specs.Steps.{event_of}
+use Rattle.apex_choices.specs.Choices.{event_of}
 use Rattle.apex_search.specs.Terms.{Event, Mode, OpenWork, Pace}
 
 -- a count that stops at `most` passes the tests below that
@@ -45,11 +45,6 @@ kept_whole : (unbroken : Bool) (worked amount bound : ℕ) → bound ≤ amount 
     → kept_of unbroken worked amount ≡ worked
 kept_whole false worked amount bound few needs = absurd (false≢true needs)
 kept_whole true worked amount bound few needs = let less = ltb-true worked bound needs in omega (arith, less, few)
-
--- all cores pass one test as they pass the other
-pub same_all : (passes also : ℕ → Bool) (n : ℕ) → ((core : ℕ) → passes core ≡ also core) → all_cores passes n ≡ all_cores also n
-same_all passes also zero same = refl
-same_all passes also (suc n) same = rw (same n, same_all passes also n same) refl
 
 later_sooner : (d : ℕ) (one other : Option ℕ) → sooner (later d one) (later d other) ≡ later d (sooner one other)
 later_sooner d None other = refl

@@ -9,14 +9,14 @@ use Rattle.apex_machine.specs.services.ProcessServices.{ProcessObject, process_k
 use Rattle.apex_machine.specs.table.Table.{IsLawful, ProcessConfig, Table}
 use Rattle.apex_pace.specs.Laws.{IsPace}
 use Rattle.apex_pace.specs.Pace.{Paced, paced_opening}
-use Rattle.apex_search.specs.Counts.{IsSamePaced}
-use Rattle.apex_search.specs.Forms.{canonical_paced}
-use Rattle.apex_search.specs.Laws.{FormsReach}
-use Rattle.apex_search.specs.Restored.{IsOfTable}
-use Rattle.apex_search.specs.Steps.{FormIsReady, FormsAreReady, PartsAreKept, form_words}
-use Rattle.apex_search.specs.Stored.{FitsWords}
+use Rattle.apex_choices.specs.Counts.{IsSamePaced}
+use Rattle.apex_forms.specs.Forms.{canonical_paced}
+use Rattle.apex_forms.specs.Laws.{FormsReach}
+use Rattle.apex_forms.specs.Restored.{IsOfTable}
+use Rattle.apex_forms.specs.Formed.{FormIsReady, FormsAreReady, PartsAreKept, form_words}
+use Rattle.apex_forms.specs.Stored.{FitsWords}
 use Rattle.apex_search.specs.Terms.{Pace}
-use Rattle.apex_search.proofs.Stepping.{paced_is}
+use Rattle.apex_choices.proofs.Same.{paced_is}
 
 -- no process is created before any event
 blank_of : (entries : List ProcessConfig) (o : ProcessObject) → 1 ≤ length entries

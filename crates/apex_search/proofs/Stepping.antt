@@ -4,72 +4,33 @@ use Rattle.std.proofs.Math.Path.{fun_ext}
 use Rattle.std.proofs.lemmas.Bool.{cases_lt}
 use Rattle.apex_types.specs.Limits.{latest}
 use Rattle.apex_types.specs.declared.calls.Call.{Call}
-use Rattle.apex_types.specs.declared.entries.Event.TheVariants.{Tick}
-use Rattle.apex_types.specs.declared.limits.TheConstants.{MOST_CORES, MOST_PROCESSES}
+use Rattle.apex_types.specs.declared.limits.TheConstants.{MOST_CORES}
 use Rattle.apex_machine.specs.Deeds.{Deed, Objects}
 use Rattle.apex_machine.specs.Events.{IsWithin}
-use Rattle.apex_machine.specs.Situations.{Situation, deed, step}
-use Rattle.apex_machine.specs.Ticks.{pass_time, tick_goal}
+use Rattle.apex_machine.specs.Situations.{Situation, deed}
 use Rattle.apex_machine.specs.processes.Roster.{Roster}
-use Rattle.apex_machine.specs.processes.Stamps.{advance_to}
 use Rattle.apex_machine.specs.table.Table.{IsLawful, Table}
 use Rattle.apex_types.proofs.Places.{length-map_places}
-use Rattle.apex_machine.proofs.BothProfiles.{lawful_count}
-use Rattle.apex_machine.proofs.Dues.{goal_before_deadlines, goal_before_dues, goal_forward, goal_near}
-use Rattle.apex_machine.proofs.Reaches.{Arrives, arrives_of, in_time_later}
-use Rattle.apex_laws.proofs.DuesServed.{IsServable}
-use Rattle.apex_laws.proofs.TickTold.{reach_serve_instant}
 use Rattle.apex_laws.specs.GoesOn.{CanGoOn}
 use Rattle.apex_laws.specs.Laws.{OfEachTable}
-use Rattle.apex_laws.specs.Premises.{most_given}
 use Rattle.apex_alike.specs.Canonical.{IsFit, canonical, canonical_record, oldest_age}
-use Rattle.apex_alike.specs.Closed.{IsSameSituation}
 use Rattle.apex_dispatch.specs.Deeds.{Does}
 use Rattle.apex_explore.specs.Systems.{step_of}
 use Rattle.apex_explore.specs.declared.systems.Taken.TheVariants.{Next, Hit}
 use Rattle.apex_pace.specs.Laws.{IsPace}
 use Rattle.apex_pace.specs.Pace.{Paced, is_allowed, paced_step}
-use Rattle.apex_search.specs.Counts.{IsSameOnCores, IsSamePaced}
+use Rattle.apex_choices.specs.Counts.{IsSameOnCores, IsSamePaced}
 use Rattle.apex_search.specs.Facts.{has_fact, shown, shown_of}
-use Rattle.apex_search.specs.Forms.{canonical_paced, kept_turns, kept_worked}
-use Rattle.apex_search.specs.Laws.{FormsReach}
-use Rattle.apex_search.specs.Reached.{IsReached}
-use Rattle.apex_search.specs.Restored.{IsOfTable}
-use Rattle.apex_search.specs.Steps.{AreWordsAfter, FormIsReady, FormsAreReady, IsForm, IsFormed, PartsAreKept, event_of, form_words, searched, step_by}
-use Rattle.apex_search.specs.Stored.{FitsWords, words_of}
+use Rattle.apex_forms.specs.Forms.{canonical_paced, kept_turns, kept_worked}
+use Rattle.apex_forms.specs.Laws.{FormsReach}
+use Rattle.apex_forms.specs.Reached.{IsReached}
+use Rattle.apex_forms.specs.Restored.{IsOfTable}
+use Rattle.apex_choices.specs.Choices.{AreWordsAfter, event_of}
+use Rattle.apex_forms.specs.Formed.{FormIsReady, FormsAreReady, IsForm, IsFormed, PartsAreKept, form_words}
+use Rattle.apex_search.specs.Steps.{searched, step_by}
+use Rattle.apex_forms.specs.Stored.{FitsWords, words_of}
 use Rattle.apex_search.specs.Terms.{Caller, Event, Notice, OpenWork, Pace, Question, Reply}
-use Rattle.apex_search.proofs.Schedules.{event_allowed}
-
--- situations that are the same are equal
-pub situation_is : {one other : Situation} → IsSameSituation one other → one ≡ other
-situation_is {one} {other} same =
-    ap (λ (r : Roster). record one { roster = r }) same.roster
-    ∙ ap (λ (o : Objects). record one { roster = other.roster; objects = o }) same.objects
-    ∙ ap (λ (w : ℕ → Option OpenWork). record other { works = w; made = one.made }) (fun_ext same.works)
-    ∙ ap (λ (n : ℕ). record other { made = n }) same.made
-
-pub paced_is : {one other : Paced} → IsSamePaced one other → one ≡ other
-paced_is {one} {other} same =
-    ap (λ (s : Situation). record one { situation = s }) (situation_is same.situation)
-    ∙ ap (λ (t : ℕ → ℕ). record one { situation = other.situation; turns = t }) (fun_ext same.turns)
-    ∙ ap (λ (w : ℕ → ℕ). record other { worked = w }) (fun_ext same.worked)
-
--- a tick of n goes n on at the most
-pub tick_near : (table : Table) → IsLawful table → (s : Situation) → CanGoOn table 1 s → (n : ℕ)
-    → (step table s (Tick n)).roster.now ≤ s.roster.now + n
-unfolding pass_time
-tick_near table lawful s can n =
-    let roster = s.roster in
-    let goal = tick_goal roster n in
-    let forward = goal_forward roster n (λ p. (can.times p).due) (λ p. (can.times p).deadline) in
-    let times = in_time_later roster goal can.times forward (goal_before_dues roster n) (goal_before_deadlines roster n) in
-    let starts = can.starts in
-    let servable : IsServable (advance_to roster goal) =
-    record { starts = record { dormant = starts.dormant; early = starts.early; undue = starts.undue }; times = times } in
-    let few : length roster.records ≤ MOST_PROCESSES = omega (arith, can.records, lawful_count table lawful) in
-    let arrives : Arrives most_given (advance_to roster goal) (step table s (Tick n)).roster =
-    arrives_of (reach_serve_instant (advance_to roster goal) servable few) in
-    omega (arith, arrives.moves.time, goal_near roster n)
+use Rattle.apex_choices.proofs.Short.{event_allowed}
 
 -- what the entry of a deed that was done shows
 pub shown_is : (d : Deed) (who : Caller) (asked : Option Call) (answer : Reply) (left : Roster) (objects : Objects) (after : List Notice)
@@ -80,14 +41,6 @@ shown_is d who asked answer left objects after does =
     ∙ ap (λ (r : Reply). shown d.caller d.call r after left) does.outcome.reply
     ∙ ap (λ (ns : List Notice). shown d.caller d.call d.outcome.reply ns left) does.outcome.notices
     ∙ ap (shown d.caller d.call d.outcome.reply d.outcome.notices) does.outcome.roster
-
--- each is the same as itself
-pub paced_refl : (s : Paced) → IsSamePaced s s
-paced_refl s = record {
-  situation = record { roster = refl; objects = refl; works = λ core. refl; made = refl };
-  turns = λ core. refl;
-  worked = λ core. refl;
-}
 
 -- the forms of situations that are the same on the cores
 same_forms : (pace : Pace) (one other : Paced) → IsSameOnCores one other

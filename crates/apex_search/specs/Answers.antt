@@ -6,7 +6,8 @@ use Rattle.apex_machine.specs.Situations.{deed}
 use Rattle.apex_machine.specs.table.Table.{Table}
 use Rattle.apex_pace.specs.Pace.{KeepsPace, Paced, paced_opening, paced_run, paced_step}
 use Rattle.apex_search.specs.Facts.{has_fact}
-use Rattle.apex_search.specs.Steps.{Searched, event_of}
+use Rattle.apex_search.specs.Steps.{Searched}
+use Rattle.apex_choices.specs.Choices.{event_of}
 use Rattle.apex_search.specs.Terms.{Event}
 
 -- the schedule keeps the pace, and the entry of its last event has the fact

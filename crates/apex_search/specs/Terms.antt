@@ -7,7 +7,7 @@ pub use Rattle.apex_machine.specs.declared.records.Suspender.{Suspender}
 pub use Rattle.apex_machine.specs.declared.records.Wait.{Wait}
 pub use Rattle.apex_machine.specs.declared.works.OpenWork.{OpenWork}
 pub use Rattle.apex_pace.specs.declared.paces.Pace.{Pace}
-pub use Rattle.apex_search.specs.declared.codes.WaitCode.{WaitCode}
+pub use Rattle.apex_forms.specs.declared.codes.WaitCode.{WaitCode}
 pub use Rattle.apex_search.specs.declared.facts.Fact.{Fact}
 pub use Rattle.apex_search.specs.declared.questions.Question.{Question}
 pub use Rattle.apex_types.specs.declared.calls.Call.{Call}

@@ -10,9 +10,10 @@ use Rattle.apex_pace.specs.Pace.{KeepsPace, Paced, paced_opening, paced_run}
 use Rattle.apex_search.specs.Answers.{schedule_of}
 use Rattle.apex_search.specs.Census.{IsSearchOf}
 use Rattle.apex_search.specs.Facts.{Shown, shown_of}
-use Rattle.apex_search.specs.Forms.{canonical_paced}
+use Rattle.apex_forms.specs.Forms.{canonical_paced}
 use Rattle.apex_search.specs.Laws.{StandsFor}
-use Rattle.apex_search.specs.Steps.{IsFormed, Searched}
+use Rattle.apex_forms.specs.Formed.{IsFormed}
+use Rattle.apex_search.specs.Steps.{Searched}
 use Rattle.apex_search.specs.Terms.{Event}
 use Rattle.apex_search.specs.declared.facts.Fact.TheVariants.{Response}
 use Rattle.apex_search.specs.declared.systems.Workplace.{Workplace}

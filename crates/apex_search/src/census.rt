@@ -6,9 +6,10 @@ ghost use Rattle.apex_search.specs.Census.{FoundHits, IsCensus, IsOneOf, IsSearc
 ghost use Rattle.apex_search.specs.Steps.{search_start};
 
 use crate::facts::{Fact, Facts};
-use crate::laws::{forms_stand_for_situations, same_forms_have_the_same_words, words_are_exact};
+use crate::laws::forms_stand_for_situations;
 use crate::systems::{TableSystem, Workplace};
 use apex_explore::{Answer, Search, is_hit};
+use apex_forms::{same_forms_have_the_same_words, words_are_exact};
 use std::alloc::{AllocError, Global};
 
 /// A fact that can happen: the path is that of a shortest schedule that leads to it, and its entry

@@ -1,22 +1,6 @@
 //! The laws of a search's states. Each is the contract of a function that changes nothing.
 ghost use Rattle.apex_laws.specs.Laws.{OfEachTable};
-ghost use Rattle.apex_search.specs.Laws.{AnswersSay, FormsHaveWords, FormsStandFor, UsualFormsReach, WordsAreExact};
-
-/// The situation before any event fits into its words, and so does what comes of an event that a
-/// pace allows in a canonical form.
-pub fn forms_stay_in_bounds()
-    ensures { OfEachTable UsualFormsReach }
-{}
-
-/// The words of a canonical form hold all of it.
-pub fn words_are_exact()
-    ensures { OfEachTable WordsAreExact }
-{}
-
-/// Canonical forms that are the same have the same words.
-pub fn same_forms_have_the_same_words()
-    ensures { OfEachTable FormsHaveWords }
-{}
+ghost use Rattle.apex_search.specs.Laws.{AnswersSay, FormsStandFor};
 
 /// A canonical form represents every situation that is alike to it: it allows the same events, they
 /// have the same facts, and what comes of them represents what comes of them there.

@@ -6,22 +6,26 @@ ghost use Rattle.apex_pace.specs.Laws.{IsPace};
 ghost use Rattle.apex_pace.specs.Pace.{paced_opening};
 ghost use Rattle.apex_search.specs.Answers.{SaysOfSchedules, schedule_of};
 ghost use Rattle.apex_search.specs.Census.{asking};
-ghost use Rattle.apex_search.specs.Counts.{IsSamePaced, paced_in};
-ghost use Rattle.apex_search.specs.Laws.{FormsReach};
-ghost use Rattle.apex_search.specs.Restored.{IsStored, paced_from};
-ghost use Rattle.apex_search.specs.Steps.{IsHereInTime, IsIn, IsWorkplace, event_of, form_words};
-ghost use Rattle.apex_search.specs.Stored.{word_count};
+ghost use Rattle.apex_choices.specs.Counts.{IsSamePaced, paced_in};
+ghost use Rattle.apex_forms.specs.Laws.{FormsReach};
+ghost use Rattle.apex_forms.specs.Restored.{IsStored, paced_from};
+ghost use Rattle.apex_search.specs.Steps.{IsHereInTime, IsIn, IsWorkplace};
+ghost use Rattle.apex_choices.specs.Choices.{event_of};
+ghost use Rattle.apex_forms.specs.Formed.{form_words};
+ghost use Rattle.apex_forms.specs.Stored.{word_count};
 ghost use Rattle.apex_search.specs.Worst.{IsFormAfter, responding};
 
 use crate::facts::{Fact, Facts};
-use crate::laws::{forms_stand_for_situations, same_forms_have_the_same_words, words_are_exact};
-use crate::paced::PacedSituation;
-use crate::premises::{forms_are_ready, forms_reach, parts_are_kept, turns_are_few};
+use crate::laws::forms_stand_for_situations;
 use crate::questions::Question;
-use crate::stored::word_count;
-use crate::usual::calls_are_usual;
+use crate::steps::step;
+use apex_choices::PacedSituation;
 use apex_dispatch::{Objects, ProcessObject};
 use apex_explore::{Answer, System, Taken, explore};
+use apex_forms::{
+    canonical_form, forms_are_ready, forms_reach, parts_are_kept, put_words, restore,
+    restore_known, same_forms_have_the_same_words, turns_are_few, word_count, words_are_exact,
+};
 use apex_pace::Pace;
 use apex_table::Table;
 use apex_types::{Event, Notices, ProcessId};
@@ -56,7 +60,7 @@ pub struct Workplace {
 impl Model for TableSystem {
     ghost use Rattle.std.specs.Prelude.{◌≡◌};
     ghost use Rattle.apex_pace.specs.Laws.{IsPace};
-    ghost use Rattle.apex_search.specs.Laws.{FormsReach};
+    ghost use Rattle.apex_forms.specs.Laws.{FormsReach};
     ghost use Rattle.apex_search.specs.Steps.{Searched, search_start};
 
     ghost Value = { Searched };
@@ -96,7 +100,7 @@ impl Workplace {
         ensures blank { self.new.blank ≡ self.old.blank }
     {
         match self.here.take() {
-            Some(here) => self.here = Some(here.restored(table, self.blank, words)),
+            Some(here) => self.here = Some(restore(here, table, self.blank, words)),
             None => unreachable!(),
         }
     }
@@ -128,7 +132,7 @@ impl Workplace {
             unreachable!()
         };
         match &self.here {
-            Some(here) => made.copied(table, here, self.blank, words),
+            Some(here) => restore_known(made, table, here, self.blank, words),
             None => unreachable!(),
         }
     }
@@ -145,7 +149,7 @@ fn put_start(paced: &PacedSituation, table: &Table, pace: Pace, words: &mut [u64
     table.lawful();
     turns_are_few(pace);
     forms_are_ready();
-    paced.put_words(pace, table, words);
+    put_words(paced, pace, table, words);
 }
 
 /// The words of the canonical form of the situation before any event. Fails only for want of
@@ -175,7 +179,6 @@ impl TableSystem {
         ensures pace { IfOk result (λ system. system.pace ≡ pace) }
         ensures question { IfOk result (λ system. system.question ≡ question) }
     {
-        calls_are_usual(&table);
         forms_reach(&table);
         let start = start_words(alloc, &table, pace)?;
         Ok(TableSystem {
@@ -227,15 +230,16 @@ impl TableSystem {
         forms_are_ready();
         forms_stand_for_situations();
         let mut events = Vec::with_capacity(alloc, path.len())?;
-        let mut paced = PacedSituation::opening(alloc, &self.table)?.canonical(self.pace);
+        let opening = PacedSituation::opening(alloc, &self.table)?;
+        let mut paced = canonical_form(opening, self.pace);
         let mut notices = Notices::new();
         for choice in path {
             let Some(event) = paced.event(self.pace, &self.table, *choice) else {
                 return Ok((events, paced));
             };
             events.push(event)?;
-            let _ = paced.make(&self.table, &self.question, event, &mut notices);
-            paced = paced.canonical(self.pace);
+            let _ = paced.make(&self.table, event, &mut notices);
+            paced = canonical_form(paced, self.pace);
         }
         Ok((events, paced))
     }
@@ -283,8 +287,9 @@ impl TableSystem {
 }
 
 impl System for TableSystem {
-    ghost use Rattle.apex_search.specs.Steps.{IsForm, IsIn, IsWorkplace, choices_of, search_start, search_step};
-    ghost use Rattle.apex_search.specs.Stored.{word_count};
+    ghost use Rattle.apex_forms.specs.Formed.{IsForm};
+    ghost use Rattle.apex_search.specs.Steps.{IsIn, IsWorkplace, choices_of, search_start, search_step};
+    ghost use Rattle.apex_forms.specs.Stored.{word_count};
 
     type Workspace = Workplace;
 
@@ -346,7 +351,8 @@ impl System for TableSystem {
         };
         let paced = workplace.copied(&self.table, state);
         let notices = &mut workplace.notices;
-        let (taken, made) = paced.step(
+        let (taken, made) = step(
+            paced,
             self.pace,
             &self.table,
             &self.question,

@@ -2,12 +2,12 @@
 ghost use Rattle.std.specs.Prelude.{◌≡◌, ℕ, IfOk, option_map};
 ghost use Rattle.apex_search.specs.Answers.{LeadsToFact, schedule_of};
 ghost use Rattle.apex_search.specs.Census.{IsSearchOf};
-ghost use Rattle.apex_search.specs.Counts.{paced_in};
+ghost use Rattle.apex_choices.specs.Counts.{paced_in};
 ghost use Rattle.apex_search.specs.Steps.{Searched};
 ghost use Rattle.apex_search.specs.Worst.{IsJobOf, IsRound, IsWorst, last_job, responding, schedule_in};
 
-use crate::paced::PacedSituation;
 use crate::systems::{TableSystem, Workplace};
+use apex_choices::PacedSituation;
 use apex_explore::{Answer, Search};
 use apex_store::Store;
 use apex_types::{Event, ProcessId};

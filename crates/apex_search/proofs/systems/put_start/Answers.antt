@@ -1,5 +1,5 @@
 use Rattle.std.proofs.Common.{◌∙◌}
-use Rattle.apex_search.specs.Counts.{paced_in}
+use Rattle.apex_choices.specs.Counts.{paced_in}
 use Rattle.apex_search.proofs.Starting.{start_fit, start_fits, start_words_are}
 use Rattle.apex_search.proofs.systems.put_start.Goals as goal
 

@@ -1,4 +1,4 @@
-use Rattle.apex_search.specs.Counts.{paced_in}
+use Rattle.apex_choices.specs.Counts.{paced_in}
 use Rattle.apex_search.proofs.Along.{IsAlong}
 use Rattle.apex_search.proofs.systems.TableSystem.follow.Given as goal
 

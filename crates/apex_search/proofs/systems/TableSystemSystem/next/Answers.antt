@@ -1,6 +1,8 @@
 use Rattle.std.proofs.Common.{◌≡◌, ◌∙◌, Some, None, refl}
-use Rattle.apex_search.specs.Counts.{StoredPaced, paced_in}
-use Rattle.apex_search.specs.Steps.{IsForm, IsIn, IsWorkplace, Searched, event_of}
+use Rattle.apex_choices.specs.Counts.{StoredPaced, paced_in}
+use Rattle.apex_forms.specs.Formed.{IsForm}
+use Rattle.apex_search.specs.Steps.{IsIn, IsWorkplace, Searched}
+use Rattle.apex_choices.specs.Choices.{event_of}
 use Rattle.apex_search.proofs.FormRestored.{copied_chosen, here_formed, made_anew, of_here, step_from, step_refused, words_stored}
 use Rattle.apex_search.proofs.Stepping.{here_time}
 use Rattle.apex_search.proofs.systems.TableSystemSystem.next.Goals as goal

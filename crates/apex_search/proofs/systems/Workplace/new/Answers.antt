@@ -1,5 +1,5 @@
 use Rattle.std.proofs.Common.{◌∙◌, refl}
-use Rattle.apex_search.specs.Counts.{paced_in}
+use Rattle.apex_choices.specs.Counts.{paced_in}
 use Rattle.apex_search.proofs.Starting.{blank_is, opened_parts}
 use Rattle.apex_search.proofs.systems.Workplace.new.Goals as goal
 

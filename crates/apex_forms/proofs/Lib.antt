@@ -1,0 +1,25 @@
+-- Proofs of the canonical form of a paced situation and its words.
+pub mod Counting
+pub mod DeedsFit
+pub mod Exact
+pub mod FormWords
+pub mod Forming
+pub mod GoOn
+pub mod Kept
+pub mod Lengths
+pub mod PartsBack
+pub mod Picked
+pub mod Places
+pub mod Puts
+pub mod ReachedNext
+pub mod Ready
+pub mod RecordsBack
+pub mod RecordsFit
+pub mod RecordsOf
+pub mod Restoring
+pub mod SameForms
+pub mod ServicesFit
+pub mod Singles
+pub mod Storable
+pub mod Within
+pub mod WordsBack

@@ -1,0 +1,12 @@
+-- The canonical form of a paced situation, and its words.
+pub mod Terms
+pub mod Codes
+pub mod Records
+pub mod Objects
+pub mod Parts
+pub mod Stored
+pub mod Restored
+pub mod Forms
+pub mod Reached
+pub mod Formed
+pub mod Laws

@@ -1,0 +1,233 @@
+//! The canonical form of the processes: stamps by ranks, instants from the oldest release that
+//! matters on, and nothing that does not matter.
+ghost use Rattle.std.specs.Prelude.{◌≡◌, true, false, ◌+◌, ◌*◌, ◌<◌, ◌≤◌, ◌&&◌, length, pos};
+ghost use Rattle.apex_types.specs.declared.limits.TheConstants.{MOST_PROCESSES};
+ghost use Rattle.apex_machine.specs.processes.Periods.{HasNoFutureRelease, awaits_first};
+ghost use Rattle.apex_machine.specs.processes.Roster.{record_at};
+ghost use Rattle.apex_machine.specs.processes.Running.{is_older};
+ghost use Rattle.apex_alike.specs.Canonical.{IsFit, age, canonical_record, canonical_roster, earlier, oldest_age, rank, recent, shares, vies};
+ghost use Rattle.apex_forms.specs.Forms.{AreRanks, form_of, with_form, with_forms};
+ghost use Rattle.apex_forms.specs.Terms.{Record};
+
+use apex_machine::{Queue, Record, Wait};
+use apex_store::{PlainStore, Store};
+use apex_types::{MOST_PROCESSES, Mode, ProcessId, Span};
+
+/// Both are in one queue.
+fn shares(one: Option<Queue>, other: Option<Queue>) -> bool
+    ensures { result ≡ shares one other }
+{
+    match (one, other) {
+        (Some(one), Some(other)) => one == other,
+        _ => false,
+    }
+}
+
+/// The two vie for one core or in one queue.
+fn vies(mode: Mode, one: &Record, other: &Record) -> bool
+    ensures { result ≡ vies mode one.now other.now }
+{
+    if one.is_eligible(mode) {
+        other.is_eligible(mode) && other.core == one.core
+    } else {
+        !other.is_eligible(mode) && shares(one.queue(), other.queue())
+    }
+}
+
+/// The other vies with this one, and has an older stamp.
+fn is_older_rival(mode: Mode, one: &Record, other: &Record) -> bool
+    ensures { result ≡ (vies mode one.now other.now && is_older other.now one.now) }
+{
+    other.since < one.since && vies(mode, one, other)
+}
+
+/// The process vies for no core, and is in no queue: so it has no rivals.
+fn is_alone(mode: Mode, fields: &Record) -> bool
+    ensures { result ≡ true → (other : Record) → vies mode fields.now other ≡ false }
+{
+    !fields.is_eligible(mode) && fields.queue().is_none()
+}
+
+/// The number of rivals with older stamps.
+fn rank(store: &PlainStore, process: ProcessId) -> u64
+    requires { process < length store.now.records }
+    ensures value { result ≡ rank store.now (record_at store.now process) }
+    ensures range { result ≤ MOST_PROCESSES }
+{
+    // A copy, so that the loop need not read it again.
+    let (mode, fields) = (store.mode(), *store.record(process));
+    if is_alone(mode, &fields) {
+        return 0;
+    }
+    let mut older = 0;
+    for place in 0..store.process_count() {
+        if is_older_rival(mode, &fields, store.record(ProcessId::at(place as u8))) {
+            older += 1;
+        }
+    }
+    older
+}
+
+/// The ranks of all processes.
+pub(crate) fn ranks(store: &PlainStore) -> [u64; MOST_PROCESSES]
+    ensures { AreRanks store.now result }
+{
+    let mut ranks = [0; MOST_PROCESSES];
+    for place in 0..store.process_count() {
+        ranks[place] = rank(store, ProcessId::at(place as u8));
+    }
+    ranks
+}
+
+/// The process waits for its first release since its start.
+fn awaits_first(wait: &Option<Wait>) -> bool
+    ensures { result ≡ awaits_first wait.now }
+{
+    matches!(wait, Some(Wait::Normal(_)) | Some(Wait::Start))
+}
+
+/// The ticks since a release, as far as they matter at this period.
+fn recent(ticks: u64, period: Option<Span>) -> u64
+    ensures value { result ≡ recent ticks period }
+    ensures range { result ≤ ticks }
+{
+    let Some(period) = period else {
+        return 0;
+    };
+    let period = u64::from(period.ticks());
+    if period < ticks {
+        period + 1 + (ticks - (period + 1)) % period
+    } else {
+        ticks
+    }
+}
+
+/// The age of the process's last release at this time, in ticks: 0 if it does not matter.
+fn age(now: u64, fields: &Record) -> u64
+    requires { fields.now.release ≤ now }
+    ensures value { result ≡ age now fields.now }
+    ensures range { result ≤ now }
+{
+    if fields.started && !awaits_first(&fields.wait) {
+        recent(now - fields.release, fields.attributes.period)
+    } else {
+        0
+    }
+}
+
+/// The greatest age of a release.
+pub(crate) fn oldest_age(store: &PlainStore) -> u64
+    requires { HasNoFutureRelease store.now }
+    ensures value { result ≡ oldest_age store.now.now store.now.records }
+    ensures range { result ≤ store.now.now }
+{
+    let mut oldest = 0;
+    for place in 0..store.process_count() {
+        let fields = store.record(ProcessId::at(place as u8));
+        oldest = age(store.now(), fields).max(oldest);
+    }
+    oldest
+}
+
+/// The instant, this many ticks earlier.
+fn earlier(ticks: u64, instant: Option<u64>) -> Option<u64>
+    ensures { result ≡ earlier ticks instant }
+{
+    match instant {
+        Some(instant) => Some(instant.saturating_sub(ticks)),
+        None => None,
+    }
+}
+
+/// The stamp of the process at this place among as many as `count`, by its rank.
+fn stamp(rank: u64, count: usize, place: usize) -> i64
+    requires rank { rank ≤ MOST_PROCESSES }
+    requires count { count ≤ MOST_PROCESSES }
+    requires place { place < count }
+    ensures { result ≡ pos (1 + (rank * count + place)) }
+{
+    (1 + (rank * count as u64 + place as u64)) as i64
+}
+
+/// The next stamp once this many processes have theirs.
+fn next_stamp(count: usize) -> i64
+    requires { count ≤ MOST_PROCESSES }
+    ensures { result ≡ pos (1 + (count + 1) * count) }
+{
+    (1 + (count as u64 + 1) * count as u64) as i64
+}
+
+/// The canonical record of a process that has this one, at this stamp and time in ticks.
+#[inline(always)]
+fn form_of(store: &PlainStore, fields: &Record, since: i64, now: u64) -> Record
+    requires release { fields.now.release ≤ store.now.now }
+    requires age { age store.now.now fields.now ≤ now }
+    requires now { now ≤ store.now.now }
+    ensures { result ≡ form_of store.now since now fields.now }
+{
+    let ticks = store.now() - now;
+    Record {
+        since,
+        due: earlier(ticks, fields.due),
+        deadline: earlier(ticks, fields.deadline),
+        release: now - age(store.now(), fields),
+        inbox: None,
+        ..*fields
+    }
+}
+
+/// The process has its canonical record from now on, at this stamp and time in ticks.
+fn put_form(store: &mut PlainStore, process: ProcessId, since: i64, now: u64)
+    requires known { process < length store.old.records }
+    requires release { (record_at store.old process).release ≤ store.old.now }
+    requires age { age store.old.now (record_at store.old process) ≤ now }
+    requires now { now ≤ store.old.now }
+    ensures { store.new ≡ with_form store.old process since now }
+{
+    let form = form_of(store, store.record(process), since, now);
+    store.put(process, form);
+}
+
+/// The processes have their canonical records from now on, at this time in ticks.
+fn put_forms(store: &mut PlainStore, ranks: &[u64; MOST_PROCESSES], now: u64)
+    requires fit { IsFit store.old }
+    requires ranks { AreRanks store.old ranks.now }
+    requires now { now ≡ oldest_age store.old.now store.old.records }
+    ensures { store.new ≡ with_forms store.old now }
+{
+    let count = store.process_count();
+    for place in 0..count {
+        let since = stamp(ranks[place], count, place);
+        put_form(store, ProcessId::at(place as u8), since, now);
+    }
+}
+
+/// The canonical record of the process at this place, at this time in ticks.
+#[inline(always)]
+pub(crate) fn canonical_record(
+    store: &PlainStore,
+    ranks: &[u64; MOST_PROCESSES],
+    now: u64,
+    place: usize,
+) -> Record
+    requires known { place < length store.now.records }
+    requires fit { IsFit store.now }
+    requires ranks { AreRanks store.now ranks.now }
+    requires now { now ≡ oldest_age store.now.now store.now.records }
+    ensures { result ≡ canonical_record store.now now place (record_at store.now place) }
+{
+    let count = store.process_count();
+    let since = stamp(ranks[place], count, place);
+    form_of(store, store.record(ProcessId::at(place as u8)), since, now)
+}
+
+/// The processes have their canonical form from now on.
+pub(crate) fn make_canonical(store: &mut PlainStore)
+    requires { IsFit store.old }
+    ensures { store.new ≡ canonical_roster store.old }
+{
+    let (ranks, now) = (ranks(store), oldest_age(store));
+    put_forms(store, &ranks, now);
+    let young = next_stamp(store.process_count());
+    store.set_clock(store.mode(), now, young, 0);
+}

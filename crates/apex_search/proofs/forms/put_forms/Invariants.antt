@@ -1,5 +1,0 @@
-use Rattle.apex_search.proofs.Forming.{IsForming}
-use Rattle.apex_search.proofs.forms.put_forms.Given as goal
-
-abbrev pub invariant-loop-place : goal.invariant-loop-place
-invariant-loop-place l = IsForming l.fn.store l.store l.now l.place

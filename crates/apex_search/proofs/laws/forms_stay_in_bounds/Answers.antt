@@ -1,5 +1,0 @@
-use Rattle.apex_search.proofs.ReachedNext.{forms_reach}
-use Rattle.apex_search.proofs.laws.forms_stay_in_bounds.Goals as goal
-
-pub returns : goal.returns
-returns c = forms_reach

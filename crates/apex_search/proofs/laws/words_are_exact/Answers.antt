@@ -1,5 +1,0 @@
-use Rattle.apex_search.proofs.Exact.{words_exact}
-use Rattle.apex_search.proofs.laws.words_are_exact.Goals as goal
-
-pub returns : goal.returns
-returns c = words_exact
