@@ -9,9 +9,9 @@ use Rattle.apex_forms.proofs.restored.restore.Goals as goal
 
 pub restore_objects-requires-clause-words : goal.restore_objects-requires-clause-words
 restore_objects-requires-clause-words c =
-    let same : (paced_in c.args.self).situation ≡ situation_with c.into_parts-store.result.0
+    let same : (paced_in c.args.paced).situation ≡ situation_with c.into_parts-store.result.0
     c.into_parts-store.result.1 c.into_parts-store.result.2 c.into_parts-store.result.3 =
-    sym (ap (λ (p : StoredPaced). (paced_in p).situation) c.self.view_is)
+    sym (ap (λ (p : StoredPaced). (paced_in p).situation) c.paced.view_is)
     ∙ c.into_parts-store.ensures.situation in
     let of = subst (IsOfTable c.args.table.now) same c.requires.table in
     let fit = objects_fit c.args.table.now (situation_with c.into_parts-store.result.0
@@ -24,9 +24,9 @@ pub returns : goal.returns
 returns c =
     let table = c.args.table.now in
     let words = c.args.words.now in
-    let same : (paced_in c.args.self).situation ≡ situation_with c.into_parts-store.result.0
+    let same : (paced_in c.args.paced).situation ≡ situation_with c.into_parts-store.result.0
     c.into_parts-store.result.1 c.into_parts-store.result.2 c.into_parts-store.result.3 =
-    sym (ap (λ (p : StoredPaced). (paced_in p).situation) c.self.view_is)
+    sym (ap (λ (p : StoredPaced). (paced_in p).situation) c.paced.view_is)
     ∙ c.into_parts-store.ensures.situation in
     let of = subst (IsOfTable c.args.table.now) same c.requires.table in
     let new = c.new.ensures.situation in

@@ -9,7 +9,7 @@ use Rattle.apex_forms.proofs.stored.put_cores.Goals as goal
 
 pub put-end-requires : goal.put-end-requires
 put-end-requires c =
-    let s = canonical_paced c.args.pace (paced_in c.args.self.now) in
+    let s = canonical_paced c.args.pace (paced_in c.args.paced.now) in
     let one = ap length c.core_words.ensures
     ∙ length-core c.work-in-loop-number.result c.kept_turns-turns.result c.kept_worked-worked.result in
     let here = length-cores c.loop-number.number s in
@@ -18,13 +18,13 @@ put-end-requires c =
 
 pub loop-number-preserved : goal.loop-number-preserved
 loop-number-preserved c =
-    let p = paced_in c.args.self.now in
+    let p = paced_in c.args.paced.now in
     let s = canonical_paced c.args.pace p in
     let n = c.loop-number.number in
-    let begun : c.work.result ≡ (paced_in c.args.self.now).situation.works n = cc in
-    let again : c.work-in-loop-number.result ≡ (paced_in c.args.self.now).situation.works n = cc in
-    let own_turns : c.turns.result ≡ (paced_in c.args.self.now).turns n = cc in
-    let own_worked : c.worked.result ≡ (paced_in c.args.self.now).worked n = cc in
+    let begun : c.work.result ≡ (paced_in c.args.paced.now).situation.works n = cc in
+    let again : c.work-in-loop-number.result ≡ (paced_in c.args.paced.now).situation.works n = cc in
+    let own_turns : c.turns.result ≡ (paced_in c.args.paced.now).turns n = cc in
+    let own_worked : c.worked.result ≡ (paced_in c.args.paced.now).worked n = cc in
     let turns = c.kept_turns-turns.ensures ∙ ap (kept_turns c.args.pace) own_turns in
     let worked = c.kept_worked-worked.ensures ∙ ap (kept_worked c.work.result) own_worked
     ∙ ap (λ (o : Option OpenWork). kept_worked o (p.worked n)) begun in
@@ -37,5 +37,5 @@ loop-number-preserved c =
 pub returns : goal.returns
 returns c =
     let e : c.loop-number.number ≡ c.args.table.now.cores = omega arith in
-    subst (λ (n : ℕ). IsPut (cores_words n (canonical_paced c.args.pace (paced_in c.args.self.now))) c.args.at c.args.words.now
+    subst (λ (n : ℕ). IsPut (cores_words n (canonical_paced c.args.pace (paced_in c.args.paced.now))) c.args.at c.args.words.now
     c.loop-number.end c.loop-number.words) e c.loop-number.invariant

@@ -7,4 +7,4 @@ use Rattle.apex_forms.proofs.stored.put_cores.Given as goal
 -- the words of the cores so far
 abbrev pub invariant-loop-number : goal.invariant-loop-number
 invariant-loop-number l =
-    IsPut (cores_words l.number (canonical_paced l.pace (paced_in l.fn.self))) l.fn.at l.fn.words l.end l.words
+    IsPut (cores_words l.number (canonical_paced l.pace (paced_in l.fn.paced))) l.fn.at l.fn.words l.end l.words

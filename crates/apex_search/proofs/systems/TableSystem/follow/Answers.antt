@@ -12,8 +12,8 @@ loop-choice-init c =
     let s = c.self.inside in
     let system : Searched = record { table = s.table; pace = s.pace; question = s.question } in
     rw (← c.self.view_is, c.in_ok-events.ensures.items) (along_begins system c.self.invariant.0 c.lawful.ensures c.self.invariant.1
-    c.forms_stand_for_situations.ensures c.args.path.now (paced_in c.canonical-paced.result)
-    (paced_then c.canonical-paced.ensures (same_canonical_paced c.in_ok-opening.ensures s.pace)))
+    c.forms_stand_for_situations.ensures c.args.path.now (paced_in c.canonical_form-paced.result)
+    (paced_then c.canonical_form-paced.ensures (same_canonical_paced c.in_ok-opening.ensures s.pace)))
 
 pub event-requires : goal.event-requires
 event-requires c =
@@ -51,8 +51,8 @@ make-requires-clause-counts c =
     here_counts s.pace c.self.invariant.0 c.turns_are_few.ensures s.table c.lawful.ensures c.self.invariant.1 c.forms_are_ready.ensures
     (paced_in c.loop-choice.paced) along.formed c.in-Some.event c.in-Some.ensures.range
 
-pub canonical-paced-requires-in-loop-choice : goal.canonical-paced-requires-in-loop-choice
-canonical-paced-requires-in-loop-choice c =
+pub canonical_form-paced-requires-in-loop-choice : goal.canonical_form-paced-requires-in-loop-choice
+canonical_form-paced-requires-in-loop-choice c =
     let s = c.self.inside in
     let system : Searched = record { table = s.table; pace = s.pace; question = s.question } in
     let along : IsAlong system c.args.path.now (paced_in c.loop-choice.paced) c.loop-choice.events.items c.loop-choice.choice-index =
@@ -69,7 +69,7 @@ loop-choice-preserved c =
     rw (← c.self.view_is, c.in_ok-push.ensures.items) (along_more system c.self.invariant.0 c.lawful.ensures c.self.invariant.1 c.forms_stand_for_situations.ensures c.args.path.now
     (paced_in c.loop-choice.paced) c.loop-choice.events.items c.loop-choice.choice-index along
     c.turns_are_few.ensures c.forms_are_ready.ensures c.loop-choice-test.true c.in-Some.event c.in-Some.ensures.value c.in-Some.ensures.range
-    (paced_in c.make.new.self) c.make.ensures.step (paced_in c.canonical-paced-in-loop-choice.result) c.canonical-paced-in-loop-choice.ensures)
+    (paced_in c.make.new.self) c.make.ensures.step (paced_in c.canonical_form-paced-in-loop-choice.result) c.canonical_form-paced-in-loop-choice.ensures)
 
 pub returns-in_default-clause-form : goal.returns-in_default-clause-form
 returns-in_default-clause-form c = form_after c.args.self.now c.args.path.now (paced_in c.loop-choice.paced) c.loop-choice.events.items c.loop-choice.choice-index c.loop-choice.invariant
