@@ -73,23 +73,21 @@ pub(crate) struct Job {
     response: u64,
 }
 
-impl PacedSituation {
-    /// The period of the process, if it has one, and the ticks since its last release.
-    fn last_job(&self, process: ProcessId) -> Option<Job>
-        ensures { result ≡ last_job (paced_in self.now).situation.roster process }
-    {
-        let store = self.situation.store();
-        if process.place() >= store.process_count() {
-            return None;
-        }
-        let fields = store.record(process);
-        match fields.attributes.period {
-            Some(period) => Some(Job {
-                period: period.ticks(),
-                response: store.now().saturating_sub(fields.release),
-            }),
-            None => None,
-        }
+/// The period of the process, if it has one, and the ticks since its last release.
+fn last_job(paced: &PacedSituation, process: ProcessId) -> Option<Job>
+    ensures { result ≡ last_job (paced_in paced.now).situation.roster process }
+{
+    let store = paced.situation.store();
+    if process.place() >= store.process_count() {
+        return None;
+    }
+    let fields = store.record(process);
+    match fields.attributes.period {
+        Some(period) => Some(Job {
+            period: period.ticks(),
+            response: store.now().saturating_sub(fields.release),
+        }),
+        None => None,
     }
 }
 
@@ -107,7 +105,7 @@ impl TableSystem {
         ensures { IfOk result (λ ended. IsJobOf self.now process path.now ended.0.items ended.1) }
     {
         let (schedule, form) = self.follow(alloc, path)?;
-        match form.last_job(process) {
+        match last_job(&form, process) {
             Some(job) => Ok((schedule, job)),
             None => unreachable!(),
         }
