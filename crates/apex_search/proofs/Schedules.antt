@@ -1,7 +1,6 @@
 -- Paths of a search are schedules of the pace, and schedules are paths.
-use Rattle.std.proofs.Common.{◌≡◌, ℕ, suc, ◌+◌, ◌<◌, ◌≤◌, Bool, true, false, List, [], ◌∷◌, ◌++◌, length, nat_lt, Option, None, Some, option_map, inl, inr, refl, sym, ◌∙◌, ap, subst, arith, if◌then◌else◌, eq-eqb, ltb-true, lt-ltb, le_trans, length-append}
-use Rattle.std.proofs.lemmas.Bool.{and_from, and_parts, cases_Bool, le-ltb}
-use Rattle.std.proofs.lemmas.Option.{none-some, same_Some}
+use Rattle.std.proofs.Common.{◌≡◌, ℕ, suc, ◌+◌, ◌<◌, ◌≤◌, Bool, true, false, List, [], ◌∷◌, ◌++◌, length, nat_lt, Option, None, Some, inl, inr, refl, sym, ◌∙◌, ap, subst, arith, if◌then◌else◌, ltb-true, lt-ltb, le_trans, length-append}
+use Rattle.std.proofs.lemmas.Bool.{and_parts, cases_Bool, le-ltb}
 use Rattle.apex_types.specs.declared.entries.Event.TheVariants.{Turn, Tick}
 use Rattle.apex_explore.specs.Answers.{Says}
 use Rattle.apex_explore.specs.Paths.{IsHit, Leads}
@@ -25,6 +24,7 @@ use Rattle.apex_search.specs.Terms.{Event, Pace}
 use Rattle.apex_forms.proofs.SameForms.{same_canonical_paced}
 use Rattle.apex_choices.proofs.Same.{same_deed, same_event, same_paced_step}
 use Rattle.apex_choices.proofs.Short.{instant_is}
+use Rattle.apex_choices.proofs.Short.{event_allowed}
 
 -- the choice of an event
 abbrev choice_of : Table → Event → ℕ

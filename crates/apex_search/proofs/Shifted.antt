@@ -17,6 +17,7 @@ use Rattle.apex_forms.specs.Forms.{kept_worked}
 use Rattle.apex_search.specs.Laws.{StandsFor}
 use Rattle.apex_choices.specs.Choices.{event_of}
 use Rattle.apex_search.specs.Terms.{Event, Mode, OpenWork, Pace}
+use Rattle.apex_choices.proofs.Same.{same_all}
 
 -- a count that stops at `most` passes the tests below that
 below_most : (count most bound : ℕ) → bound ≤ most → nat_lt (min count most) bound ≡ nat_lt count bound

@@ -1,6 +1,5 @@
 -- One choice of a search, made in a situation that is in canonical form.
-use Rattle.std.proofs.Common.{◌≡◌, ◌∙◌, ℕ, ◌+◌, ◌<◌, ◌≤◌, ◌^◌, true, false, List, [], length, Option, None, Some, inl, inr, refl, sym, ap, subst, arith}
-use Rattle.std.proofs.Math.Path.{fun_ext}
+use Rattle.std.proofs.Common.{◌≡◌, ◌∙◌, ℕ, ◌<◌, ◌≤◌, ◌^◌, true, false, List, [], Option, None, Some, inl, inr, refl, sym, ap, subst, arith}
 use Rattle.std.proofs.lemmas.Bool.{cases_lt}
 use Rattle.apex_types.specs.Limits.{latest}
 use Rattle.apex_types.specs.declared.calls.Call.{Call}
@@ -31,6 +30,7 @@ use Rattle.apex_search.specs.Steps.{searched, step_by}
 use Rattle.apex_forms.specs.Stored.{FitsWords, words_of}
 use Rattle.apex_search.specs.Terms.{Caller, Event, Notice, OpenWork, Pace, Question, Reply}
 use Rattle.apex_choices.proofs.Short.{event_allowed}
+use Rattle.apex_choices.proofs.Same.{paced_is, situation_is}
 
 -- what the entry of a deed that was done shows
 pub shown_is : (d : Deed) (who : Caller) (asked : Option Call) (answer : Reply) (left : Roster) (objects : Objects) (after : List Notice)

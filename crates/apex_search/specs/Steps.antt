@@ -1,6 +1,6 @@
 -- The transition system of a table under a pace: its states are words, and its choices are a turn of
 -- each core and the tick that may come.
-use Rattle.std.specs.Prelude.{◌≡◌, ℕ, ◌+◌, ◌^◌, ◌<◌, ◌≤◌, false, List, nat_lt, Option, None, Some, option_map, if◌then◌else◌}
+use Rattle.std.specs.Prelude.{◌≡◌, ℕ, ◌+◌, ◌≤◌, false, List, Option, None, Some, if◌then◌else◌}
 use Rattle.apex_explore.specs.Systems.{Step, refuses, goes, hits}
 use Rattle.apex_machine.specs.Situations.{deed}
 use Rattle.apex_machine.specs.table.Table.{Table}
@@ -11,6 +11,8 @@ use Rattle.apex_forms.specs.Restored.{IsOfTable, paced_from}
 use Rattle.apex_search.specs.Terms.{Event, Pace, Question}
 use Rattle.apex_search.specs.declared.systems.Workplace.{Workplace}
 use Rattle.apex_types.specs.Limits.{latest}
+use Rattle.apex_choices.specs.Choices.{event_of}
+use Rattle.apex_forms.specs.Formed.{form_words}
 
 -- a table under a pace, and what is looked for
 pub record Searched : Type 0 where
