@@ -33,22 +33,22 @@ fn shows(paced: &PacedSituation, question: &Question, deed: &Deed, notices: &Not
 }
 
 /// Makes the event, and answers whether its entry has one of the facts that are asked for.
-fn make(
+pub(crate) fn make(
     paced: &mut PacedSituation,
     table: &Table,
     question: &Question,
-    event: Event,
+    event: &Event,
     notices: &mut Notices,
 ) -> bool
     requires can { CanGoOn table.now 1 (paced_in paced.old).situation }
-    requires counts { AreWordsAfter event (paced_in paced.old) }
-    requires event { IsWithin table.now.cores event }
+    requires counts { AreWordsAfter event.now (paced_in paced.old) }
+    requires event { IsWithin table.now.cores event.now }
     ensures step { IsSameOnCores (paced_in paced.new)
-        (paced_step table.now (paced_in paced.old) event) }
+        (paced_step table.now (paced_in paced.old) event.now) }
     ensures asked { result
-        ≡ has_fact question.now (deed table.now (paced_in paced.old).situation event) }
+        ≡ has_fact question.now (deed table.now (paced_in paced.old).situation event.now) }
 {
-    let deed = paced.make(table, event, notices);
+    let deed = paced.make(table, *event, notices);
     shows(paced, question, &deed, notices)
 }
 
@@ -77,7 +77,7 @@ pub(crate) fn step(
     turns_are_few(pace);
     forms_are_ready();
     parts_are_kept();
-    if make(&mut paced, table, question, event, notices) {
+    if make(&mut paced, table, question, &event, notices) {
         return (Taken::Hit, paced);
     }
     put_words(&paced, pace, table, next);

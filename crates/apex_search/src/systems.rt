@@ -18,7 +18,7 @@ ghost use Rattle.apex_search.specs.Worst.{IsFormAfter, responding};
 use crate::facts::{Fact, Facts};
 use crate::laws::forms_stand_for_situations;
 use crate::questions::Question;
-use crate::steps::step;
+use crate::steps::{make, step};
 use apex_choices::PacedSituation;
 use apex_dispatch::{Objects, ProcessObject};
 use apex_explore::{Answer, System, Taken, explore};
@@ -237,8 +237,14 @@ impl TableSystem {
             let Some(event) = paced.event(self.pace, &self.table, *choice) else {
                 return Ok((events, paced));
             };
+            let _ = make(
+                &mut paced,
+                &self.table,
+                &self.question,
+                &event,
+                &mut notices,
+            );
             events.push(event)?;
-            let _ = paced.make(&self.table, event, &mut notices);
             paced = canonical_form(paced, self.pace);
         }
         Ok((events, paced))

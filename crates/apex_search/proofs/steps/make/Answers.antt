@@ -9,4 +9,4 @@ pub returns-clause-asked : goal.returns-clause-asked
 returns-clause-asked c =
     c.shows.ensures
     ∙ ap (has_some c.args.question.now)
-    (shown_is (deed c.args.table.now (paced_in c.args.paced.now).situation c.args.event) _ _ _ _ _ _ c.make-deed.ensures.done)
+    (shown_is (deed c.args.table.now (paced_in c.args.paced.now).situation c.args.event.now) _ _ _ _ _ _ c.make-deed.ensures.done)

@@ -58,7 +58,7 @@ canonical_form-paced-requires-in-loop-choice c =
     let along : IsAlong system c.args.path.now (paced_in c.loop-choice.paced) c.loop-choice.events.items c.loop-choice.choice-index =
     rw (← c.self.view_is) at c.loop-choice.invariant in
     made_fit s.pace c.self.invariant.0 c.turns_are_few.ensures s.table c.lawful.ensures c.self.invariant.1 c.forms_are_ready.ensures
-    (paced_in c.loop-choice.paced) along.formed (slice_index c.args.path.now c.loop-choice.choice-index) c.in-Some.event (sym c.in-Some.ensures.value) (paced_in c.make.new.self) c.make.ensures.step
+    (paced_in c.loop-choice.paced) along.formed (slice_index c.args.path.now c.loop-choice.choice-index) c.in-Some.event (sym c.in-Some.ensures.value) (paced_in c.make.new.paced) c.make.ensures.step
 
 pub loop-choice-preserved : goal.loop-choice-preserved
 loop-choice-preserved c =
@@ -69,7 +69,7 @@ loop-choice-preserved c =
     rw (← c.self.view_is, c.in_ok-push.ensures.items) (along_more system c.self.invariant.0 c.lawful.ensures c.self.invariant.1 c.forms_stand_for_situations.ensures c.args.path.now
     (paced_in c.loop-choice.paced) c.loop-choice.events.items c.loop-choice.choice-index along
     c.turns_are_few.ensures c.forms_are_ready.ensures c.loop-choice-test.true c.in-Some.event c.in-Some.ensures.value c.in-Some.ensures.range
-    (paced_in c.make.new.self) c.make.ensures.step (paced_in c.canonical_form-paced-in-loop-choice.result) c.canonical_form-paced-in-loop-choice.ensures)
+    (paced_in c.make.new.paced) c.make.ensures.step (paced_in c.canonical_form-paced-in-loop-choice.result) c.canonical_form-paced-in-loop-choice.ensures)
 
 pub returns-in_default-clause-form : goal.returns-in_default-clause-form
 returns-in_default-clause-form c = form_after c.args.self.now c.args.path.now (paced_in c.loop-choice.paced) c.loop-choice.events.items c.loop-choice.choice-index c.loop-choice.invariant
