@@ -78,7 +78,7 @@ rank_is roster rivals count place value one are few all within is counted =
     ∙ ap (λ (r : Rival). count_by (is_older_rival r) (map (rival_of roster.mode) roster.records)) is
     ∙ rivals_counted roster.mode (record_at roster place) roster.records
 
-before_more : (p place : ℕ) → p < place + 1 → p ≢ place → p < place
+pub before_more : (p place : ℕ) → p < place + 1 → p ≢ place → p < place
 before_more p place below other = omega (arith, below, other)
 
 -- one rival more

@@ -2,7 +2,7 @@ use Rattle.std.proofs.Common.{◌<◌, ◌≤◌, ◌∙◌, List, ap, sym, leng
 use Rattle.apex_machine.specs.processes.Roster.{Roster, record_at}
 use Rattle.apex_forms.proofs.Places.{as_is, copied_all, copied_next, length-written}
 use Rattle.apex_forms.specs.Terms.{Record}
-use Rattle.apex_forms.proofs.restored.copy_records.Goals as goal
+use Rattle.apex_forms.proofs.copied.copy_records.Goals as goal
 
 pub put-requires : goal.put-requires
 put-requires c =

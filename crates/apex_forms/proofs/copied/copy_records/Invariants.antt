@@ -1,7 +1,7 @@
 use Rattle.std.proofs.Common.{◌≡◌, ◌++◌, take, drop}
 use Rattle.apex_types.specs.Places.{map_places}
 use Rattle.apex_forms.proofs.Places.{as_is}
-use Rattle.apex_forms.proofs.restored.copy_records.Given as goal
+use Rattle.apex_forms.proofs.copied.copy_records.Given as goal
 
 -- those so far have the records of the others
 abbrev pub invariant-loop-place : goal.invariant-loop-place
