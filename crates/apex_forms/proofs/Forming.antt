@@ -27,6 +27,14 @@ oldest_least now [] p within = absurd (omega (arith, within))
 oldest_least now (r ∷ rs) zero within = omega arith
 oldest_least now (r ∷ rs) (suc p) within = omega (arith, oldest_least now rs p (omega (arith, within)))
 
+-- a process without rivals has none that are older
+none_counted : (is : Rival → Bool) (rs : List Rival) → ((r : Rival) → is r ≡ false) → count_by is rs ≡ 0
+none_counted is [] none = refl
+none_counted is (r ∷ rs) none = rw (none r) (none_counted is rs none)
+
+pub no_rivals : (one : Rival) (rs : List Rival) → ((other : Rival) → vie one other ≡ false) → 0 ≡ count_by (is_older_rival one) rs
+no_rivals one rs none = sym (none_counted (is_older_rival one) rs (λ other. rw (none other) refl))
+
 -- two processes vie for one thing exactly if they are rivals
 same_vie : (e f : Bool) (c d : ℕ) (q r : Option Queue) (a b : ℤ)
     → vie (rival_by e c q a) (rival_by f d r b) ≡ (if e then f && d == c else not f && shares q r)

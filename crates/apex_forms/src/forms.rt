@@ -1,11 +1,12 @@
 //! The canonical form of the processes: stamps by ranks, instants from the oldest release that
 //! matters on, and nothing that does not matter.
-ghost use Rattle.std.specs.Prelude.{◌≡◌, ◌+◌, ◌*◌, ◌<◌, ◌≤◌, count_by, length, pos};
+ghost use Rattle.std.specs.Prelude.{◌≡◌, true, false, ◌+◌, ◌*◌, ◌<◌, ◌≤◌, count_by, length, pos};
 ghost use Rattle.apex_types.specs.declared.limits.TheConstants.{MOST_PROCESSES};
 ghost use Rattle.apex_machine.specs.processes.Periods.{HasNoFutureRelease, awaits_first};
 ghost use Rattle.apex_machine.specs.processes.Roster.{record_at};
 ghost use Rattle.apex_alike.specs.Canonical.{IsFit, age, canonical_record, canonical_roster, earlier, oldest_age, recent, shares};
 ghost use Rattle.apex_forms.specs.Forms.{AreRanks, AreRivals, form_of, is_older_rival, rival_of, vie, with_form, with_forms};
+ghost use Rattle.apex_forms.specs.Terms.{Rival};
 
 use apex_machine::{Queue, Record, Wait};
 use apex_store::{PlainStore, Store};
@@ -67,7 +68,14 @@ fn vie(one: &Rival, other: &Rival) -> bool
 fn is_older_rival(one: &Rival, other: &Rival) -> bool
     ensures { result ≡ is_older_rival one.now other.now }
 {
-    other.since < one.since && vie(one, other)
+    vie(one, other) && other.since < one.since
+}
+
+/// The process vies for no core, and is in no queue: so it has no rivals.
+fn is_alone(one: &Rival) -> bool
+    ensures { result ≡ true → (other : Rival) → vie one.now other ≡ false }
+{
+    one.core.is_none() && one.queue.is_none()
 }
 
 /// The number of these rivals that have older stamps.
@@ -76,6 +84,9 @@ fn older_rivals(rivals: &[Rival], one: &Rival) -> u64
     ensures value { result ≡ count_by (is_older_rival one.now) rivals.now }
     ensures range { result ≤ length rivals.now }
 {
+    if is_alone(one) {
+        return 0;
+    }
     let mut older = 0;
     for other in rivals {
         if is_older_rival(one, other) {
