@@ -27,10 +27,10 @@ map_places f g (suc n) =
 
 -- the tracks of all processes show what a trace shows of their cells
 tracks_shown : (roster : Roster) (n : ℕ) (tracks : List Track) → tracks ≡ of_places (track_of roster) n
-    → map cell_on tracks ≡ map (λ (c : Cell). bare_cell c.state) (of_places (cell_of roster) n)
+    → map cell_on tracks ≡ map bare_cell (of_places (cell_of roster) n)
 tracks_shown roster n tracks is =
     ap (map cell_on) is ∙ map_places cell_on (track_of roster) n
-    ∙ sym (map_places (λ (c : Cell). bare_cell c.state) (cell_of roster) n)
+    ∙ sym (map_places bare_cell (cell_of roster) n)
 
 -- a moment of these
 abbrev pub shown_of : List Cell → List (Option ℕ) → Counts → Shown
@@ -42,35 +42,28 @@ pub tracks_same : (roster : Roster) (tracks : List Track) (running : List (Optio
     → shown_of (map cell_on tracks) running counts ≡ bare (moment_of roster counts)
 tracks_same roster tracks running counts is runs =
     ap (λ cells. shown_of cells running counts) (tracks_shown roster (length roster.records) tracks is)
-    ∙ ap (λ all. shown_of (map (λ (c : Cell). bare_cell c.state) (of_places (cell_of roster) (length roster.records))) all counts) runs
+    ∙ ap (λ all. shown_of (map bare_cell (of_places (cell_of roster) (length roster.records))) all counts) runs
 
--- the state on a track
-state_on : (tracks : List Track) (p : ℕ)
-    → (slice_index_or (map cell_on tracks) p no_cell).state ≡ (slice_index_or tracks p no_track).state
-state_on [] p = refl
-state_on (track ∷ tracks) zero = refl
-state_on (track ∷ tracks) (suc p) = state_on tracks p
+-- what a track shows is the cell
+pub track_seen : (tracks : List Track) (p : ℕ)
+    → cell_on (slice_index_or tracks p no_track) ≡ slice_index_or (map cell_on tracks) p no_cell
+track_seen [] p = refl
+track_seen (track ∷ tracks) zero = refl
+track_seen (track ∷ tracks) (suc p) = track_seen tracks p
 
--- the state on a track is that in the cell that the track shows
-pub state_seen : (tracks : List Track) (cells : List Cell) (p : ℕ) → map cell_on tracks ≡ cells
-    → (slice_index_or tracks p no_track).state ≡ (slice_index_or cells p no_cell).state
-state_seen tracks cells p is =
-    sym (state_on tracks p) ∙ ap (λ (all : List Cell). (slice_index_or all p no_cell).state) is
+-- the cell of a process, without mutexes
+cell_bare : (cells : List Cell) (p : ℕ)
+    → slice_index_or (map bare_cell cells) p no_cell ≡ bare_cell (slice_index_or cells p no_cell)
+cell_bare [] p = refl
+cell_bare (cell ∷ cells) zero = refl
+cell_bare (cell ∷ cells) (suc p) = cell_bare cells p
 
--- the state of a process in a cell
-state_bare : (cells : List Cell) (p : ℕ)
-    → (slice_index_or (map (λ (c : Cell). bare_cell c.state) cells) p no_cell).state
-    ≡ (slice_index_or cells p no_cell).state
-state_bare [] p = refl
-state_bare (cell ∷ cells) zero = refl
-state_bare (cell ∷ cells) (suc p) = state_bare cells p
-
--- the state of a process on the track after an entry
-pub state_now : (roster : Roster) (p : ℕ) → p < length roster.records
-    → process_state roster p ≡ (slice_index_or (bare_cells roster) p no_cell).state
-state_now roster p within =
-    sym (state_bare (of_places (cell_of roster) (length roster.records)) p
-    ∙ ap (λ (c : Cell). c.state) (place_of (cell_of roster) (length roster.records) p no_cell within))
+-- what the track of a process shows after an entry
+pub track_now : (roster : Roster) (p : ℕ) → p < length roster.records
+    → cell_on (track_of roster p) ≡ slice_index_or (bare_cells roster) p no_cell
+track_now roster p within =
+    sym (cell_bare (of_places (cell_of roster) (length roster.records)) p
+    ∙ ap bare_cell (place_of (cell_of roster) (length roster.records) p no_cell within))
 
 -- texts that are the same one by one
 texts_same : (f g : ℕ → List ℕ) (n : ℕ) → ((i : ℕ) → f i ≡ g i) → texts_of f n ≡ texts_of g n
@@ -78,21 +71,21 @@ texts_same f g zero same = refl
 texts_same f g (suc n) same =
     ap (λ l. l ++ f n) (texts_same f g n same) ∙ ap (λ l. texts_of g n ++ l) (same n)
 
-process_same : (time now : ℕ) (before after : Shown) (p : ℕ)
-    → trace.process_at time now (bare before) (bare after) p ≡ trace.process_at time now before after p
-process_same time now before after p =
-    ap (λ (s : State). trace.process_text (trace.process_spot p time) now s (trace.state_at (bare after) p))
-    (state_bare before.cells p)
-    ∙ ap (λ (s : State). trace.process_text (trace.process_spot p time) now (trace.state_at before p) s)
-    (state_bare after.cells p)
+process_same : (table : Table) (time now : ℕ) (before after : Shown) (p : ℕ)
+    → trace.process_at table time now (bare before) (bare after) p ≡ trace.process_at table time now before after p
+process_same table time now before after p =
+    ap (λ (c : Cell). trace.process_text table (trace.process_spot p time) now c (trace.cell_at (bare after) p))
+    (cell_bare before.cells p)
+    ∙ ap (λ (c : Cell). trace.process_text table (trace.process_spot p time) now (trace.cell_at before p) c)
+    (cell_bare after.cells p)
 
 -- the changes on all tracks
 changes_same : (table : Table) (time now : ℕ) (before after : Shown)
     → trace.changes_text table time now (bare before) (bare after) ≡ trace.changes_text table time now before after
 changes_same table time now before after =
     ap (λ l. texts_of (trace.core_at table time now before after) table.cores ++ l)
-    (texts_same (trace.process_at time now (bare before) (bare after)) (trace.process_at time now before after)
-    (length table.processes) (process_same time now before after))
+    (texts_same (trace.process_at table time now (bare before) (bare after)) (trace.process_at table time now before after)
+    (length table.processes) (process_same table time now before after))
 
 -- the text of a column
 pub column_same : (table : Table) (time : ℕ) (before : Shown) (entry : Entry) (after : Shown)
@@ -117,7 +110,7 @@ pub follow_many : (style : Style) (tracks shown : Shown) (n : ℕ) → Follows s
     → HasTracks style tracks n
 follow_many (Svg frame) tracks shown n follows many = tt
 follow_many Trace tracks shown n follows many =
-    ap (λ (s : Shown). length s.cells) follows ∙ length-map shown.cells (λ (c : Cell). bare_cell c.state) ∙ many
+    ap (λ (s : Shown). length s.cells) follows ∙ length-map shown.cells bare_cell ∙ many
 
 -- tracks that follow a moment have the moment's counts and cores
 pub follow_fits : (style : Style) (tracks shown : Shown) (table : Table) → Follows style tracks shown → HasCounts shown.counts table

@@ -1,7 +1,7 @@
 -- A picture as a trace in the Trace Event Format, which is JSON. The groups of tracks are the cores (1), the
 -- processes (2) and the objects (3). A tick is 1,000 units of the axis; times are hundredths of a unit, and the
 -- partition's time is an argument too.
-use Rattle.std.specs.Prelude.{ℕ, ◌+◌, Bool, true, false, List, [], ◌∷◌, ◌++◌, Option, None, Some, is_some, codes, decimal, flat_map, length, slice_index_or, if◌then◌else◌, ◌==◌}
+use Rattle.std.specs.Prelude.{ℕ, ◌+◌, Bool, true, false, List, [], ◌∷◌, ◌++◌, Option, None, Some, is_some, codes, decimal, flat_map, length, slice_index_or, if◌then◌else◌, ◌==◌, ◌&&◌}
 use Rattle.apex_machine.specs.text.Texts.{id_text, process_name}
 use Rattle.apex_calls.specs.Lines.{code_text, deadline_text}
 use Rattle.apex_machine.specs.text.Listing.{texts_of}
@@ -16,7 +16,8 @@ use Rattle.apex_pictures.specs.Moments.{Shown, no_cell, none_shown}
 use Rattle.apex_pictures.specs.Stamps.{begin_back}
 use Rattle.apex_pictures.specs.Svg.{texts}
 use Rattle.apex_types.specs.declared.modes.DeadlineType.{DeadlineType}
-use Rattle.apex_pictures.specs.Terms.{Entry, Notice, State}
+use Rattle.apex_pictures.specs.Terms.{Cell, Entry, Notice, State, Wait}
+use Rattle.apex_pictures.specs.Waits.{same_things, waiting_text}
 use Rattle.apex_json.specs.Strings.{json_text}
 use Rattle.apex_pictures.specs.declared.trace.Spot.{Spot}
 
@@ -74,12 +75,17 @@ run_text table spot now p = begin_text spot now ++ run_name_text table p
 abbrev pub slice_text : Spot → ℕ → List ℕ → List ℕ
 slice_text spot now word = begin_text spot now ++ word ++ codes "\"}"
 
--- the slice of a state to which a process comes; a dormant one has none
-abbrev pub being_text : Spot → ℕ → State → List ℕ
-being_text spot now Dormant = []
-being_text spot now Ready = slice_text spot now (state_text Ready)
-being_text spot now Running = slice_text spot now (state_text Running)
-being_text spot now Waiting = slice_text spot now (state_text Waiting)
+-- a process is not dormant
+abbrev pub is_begun : State → Bool
+is_begun Dormant = false
+is_begun state = true
+
+-- the slice of a state to which a process comes, with this wait; a dormant one has none
+abbrev pub being_text : Table → Spot → ℕ → State → Option Wait → List ℕ
+being_text table spot now Dormant wait = []
+being_text table spot now Ready wait = slice_text spot now (state_text Ready)
+being_text table spot now Running wait = slice_text spot now (state_text Running)
+being_text table spot now Waiting wait = slice_text spot now (waiting_text table wait)
 
 -- the slice of the process that a core runs, if it runs one
 abbrev pub run_of : Table → Spot → ℕ → Option ℕ → List ℕ
@@ -105,22 +111,21 @@ same_state Running Running = true
 same_state Waiting Waiting = true
 same_state state other = false
 
--- a process is not dormant
-abbrev pub is_begun : State → Bool
-is_begun Dormant = false
-is_begun state = true
-
 -- the changes on the track of a core
 abbrev pub core_text : Table → Spot → ℕ → Option ℕ → Option ℕ → List ℕ
 core_text table spot now before after =
     if same_process before after then []
     else ended (is_some before) spot ++ run_of table spot now after
 
+-- two slices of a process are one: the state is the same, and it waits for the same thing
+abbrev pub same_being : Cell → Cell → Bool
+same_being before after = same_state before.state after.state && same_things before.wait after.wait
+
 -- the changes on the track of a process
-abbrev pub process_text : Spot → ℕ → State → State → List ℕ
-process_text spot now before after =
-    if same_state before after then []
-    else ended (is_begun before) spot ++ being_text spot now after
+abbrev pub process_text : Table → Spot → ℕ → Cell → Cell → List ℕ
+process_text table spot now before after =
+    if same_being before after then []
+    else ended (is_begun before.state) spot ++ being_text table spot now after.state after.wait
 
 -- the track of a core
 abbrev pub core_spot : ℕ → ℕ → Spot
@@ -136,14 +141,14 @@ core_at table time now before after core =
     core_text table (core_spot core time) now
     (slice_index_or before.running core None) (slice_index_or after.running core None)
 
--- the state of process p of a moment
-abbrev pub state_at : Shown → ℕ → State
-state_at shown p = (slice_index_or shown.cells p no_cell).state
+-- the cell of process p of a moment
+abbrev pub cell_at : Shown → ℕ → Cell
+cell_at shown p = slice_index_or shown.cells p no_cell
 
 -- the changes on the track of process p
-abbrev pub process_at : ℕ → ℕ → Shown → Shown → ℕ → List ℕ
-process_at time now before after p =
-    process_text (process_spot p time) now (state_at before p) (state_at after p)
+abbrev pub process_at : Table → ℕ → ℕ → Shown → Shown → ℕ → List ℕ
+process_at table time now before after p =
+    process_text table (process_spot p time) now (cell_at before p) (cell_at after p)
 
 -- the mark of a notice on the track of process p, by the two words of its name
 abbrev pub mark_text : ℕ → ℕ → ℕ → List ℕ → List ℕ → List ℕ
@@ -162,7 +167,7 @@ marked_text time now (Missed p kind) =
 abbrev pub changes_text : Table → ℕ → ℕ → Shown → Shown → List ℕ
 changes_text table time now before after =
     texts_of (core_at table time now before after) table.cores
-    ++ texts_of (process_at time now before after) (length table.processes)
+    ++ texts_of (process_at table time now before after) (length table.processes)
 
 -- the changes by an entry on the tracks and of the counters, and the marks of its notices
 abbrev pub column_text : Table → ℕ → Shown → Entry → Shown → List ℕ

@@ -12,8 +12,8 @@ use itoa::Buffer;
 /// The most digits of a number.
 pub(crate) const DIGITS: usize = 20;
 
-/// The room for the text of a time: its units, a point and two numbers of a byte.
-pub(crate) const TIME_ROOM: usize = DIGITS + 7;
+/// The room for the text of a time: its units, a point and two digits.
+pub(crate) const TIME_ROOM: usize = DIGITS + 3;
 
 /// The instant of a moment: its time, and its place among the moments of that time.
 #[derive(Clone, Copy)]
@@ -63,6 +63,7 @@ impl Instant {
 }
 
 /// Adds the hundredths beyond the units, if there are any.
+#[tactic(auto, using(std::proofs::lemmas::Fmt::decimal_digit))]
 fn add_fraction(text: &mut ArrayString<TIME_ROOM>, hundredths: u64)
     requires digits { hundredths < 100 }
     requires room { array_string_len text.old ≤ DIGITS }

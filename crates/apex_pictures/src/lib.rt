@@ -12,6 +12,7 @@ mod instants;
 mod laws;
 mod marks;
 mod moments;
+mod names;
 mod pieces;
 mod stamps;
 mod styles;
@@ -19,6 +20,7 @@ mod svg;
 mod texts;
 mod trace;
 mod tracks;
+mod waits;
 mod words;
 
 pub use counts::Counts;

@@ -19,7 +19,8 @@ use crate::moments::{CORES, running_at};
 use crate::pieces::{Piece, add, add_number, add_text};
 use crate::stamps::{BEGIN_ROOM, END_ROOM, FRONT, Stamp, begin_front, end_front};
 use crate::texts::{Part, put, put_all};
-use crate::tracks::{Track, Tracks, state_on, track_of};
+use crate::tracks::{Track, Tracks, track_at, track_of};
+use crate::waits::{WAITING, add_waiting, are_same_things};
 use crate::words::{code_word, deadline_word, id_part, name_of, put_id};
 use apex_dispatch::Kernel;
 use apex_json::{MOST_ESCAPE, add_json};
@@ -193,23 +194,27 @@ fn add_running(
     }
 }
 
-/// Adds the slice of the state that a process enters; DORMANT has no slice.
+/// Adds the slice of the state that a process enters, with its wait; DORMANT has no slice.
 #[inline(always)]
 #[tactic(auto, using(std::proofs::Common::append_assoc))]
-fn add_being(piece: &mut Piece, spot: Spot, stamp: &Stamp, state: State)
+fn add_being(piece: &mut Piece, table: &Table, spot: Spot, stamp: &Stamp, track: &Track)
     requires stamps { Stamps stamp.now spot }
-    requires room { array_vec_len piece.old + BEGIN + NAME ≤ PIECE_ROOM }
-    ensures { piece.new.items ≡ piece.old.items ++ trace.being_text spot stamp.now.ticks state }
+    requires room { array_vec_len piece.old + BEGIN + WAITING + 2 ≤ PIECE_ROOM }
+    ensures { piece.new.items ≡ piece.old.items
+        ++ trace.being_text table.now spot stamp.now.ticks track.now.state track.now.wait }
 {
-    if let State::Dormant = state {
+    if let State::Dormant = track.state {
         return;
     }
     add_begin(piece, spot, stamp);
-    match state {
+    match track.state {
         State::Dormant => unreachable!(),
         State::Ready => add_text(piece, *b"READY\"}"),
         State::Running => add_text(piece, *b"RUNNING\"}"),
-        State::Waiting => add_text(piece, *b"WAITING\"}"),
+        State::Waiting => {
+            add_waiting(piece, table, &track.wait);
+            add_text(piece, *b"\"}");
+        }
     }
 }
 
@@ -289,6 +294,14 @@ fn is_same_state(before: State, after: State) -> bool
     before == after
 }
 
+/// Two slices of a process are one.
+#[inline(always)]
+fn is_same_being(before: &Track, after: &Track) -> bool
+    ensures { result ≡ trace.same_being (cell_on before.now) (cell_on after.now) }
+{
+    is_same_state(before.state, after.state) && are_same_things(&before.wait, &after.wait)
+}
+
 fn is_begun(state: State) -> bool
     ensures { result ≡ trace.is_begun state }
 {
@@ -303,19 +316,20 @@ fn is_begun(state: State) -> bool
 #[inline(never)]
 fn put_change(
     text: &mut Vec<u8>,
+    table: &Table,
     spot: Spot,
     stamp: &Stamp,
-    before: State,
-    after: State,
+    before: &Track,
+    after: &Track,
 ) -> Result<(), AllocError>
     requires { Stamps stamp.now spot }
     ensures { OnOk result (text.new.items ≡ text.old.items
-        ++ (trace.ended (trace.is_begun before) spot
-        ++ trace.being_text spot stamp.now.ticks after)) }
+        ++ (trace.ended (trace.is_begun before.now.state) spot
+        ++ trace.being_text table.now spot stamp.now.ticks after.now.state after.now.wait)) }
 {
     let mut piece = Piece::new();
-    add_ended(&mut piece, spot, stamp, is_begun(before));
-    add_being(&mut piece, spot, stamp, after);
+    add_ended(&mut piece, spot, stamp, is_begun(before.state));
+    add_being(&mut piece, table, spot, stamp, after);
     text.extend_from_slice(piece.as_slice())
 }
 
@@ -323,20 +337,29 @@ fn put_change(
 #[inline(always)]
 fn put_process(
     text: &mut Vec<u8>,
+    table: &Table,
     process: ProcessId,
     time: u64,
     stamp: &Stamp,
-    before: State,
-    after: State,
+    before: &Track,
+    after: &Track,
 ) -> Result<(), AllocError>
     requires { IsStamp stamp.now time }
-    ensures { OnOk result (text.new.items ≡ text.old.items ++ trace.process_text
-        (trace.process_spot process time) stamp.now.ticks before after) }
+    ensures { OnOk result (text.new.items ≡ text.old.items ++ trace.process_text table.now
+        (trace.process_spot process time) stamp.now.ticks (cell_on before.now)
+        (cell_on after.now)) }
 {
-    if is_same_state(before, after) {
+    if is_same_being(before, after) {
         return Ok(());
     }
-    put_change(text, process_spot(process, time), stamp, before, after)
+    put_change(
+        text,
+        table,
+        process_spot(process, time),
+        stamp,
+        before,
+        after,
+    )
 }
 
 /// The track of a core.
@@ -417,6 +440,7 @@ pub(crate) fn put_runs<S: Store>(
 /// Brings the tracks up to the processes of a store, and puts the changes on them.
 pub(crate) fn put_processes<S: Store>(
     text: &mut Vec<u8>,
+    table: &Table,
     store: &S,
     running: &[Option<ProcessId>],
     time: u64,
@@ -427,16 +451,17 @@ pub(crate) fn put_processes<S: Store>(
     requires running { running.now ≡ running_in (S.roster store.now) }
     requires many { length tracks.old ≡ length (S.roster store.now).records }
     ensures text { OnOk result (text.new.items ≡ text.old.items
-        ++ texts_of (trace.process_at time stamp.now.ticks (with_cells (map cell_on tracks.old))
-        (with_cells (bare_cells (S.roster store.now)))) (length (S.roster store.now).records)) }
+        ++ texts_of (trace.process_at table.now time stamp.now.ticks
+        (with_cells (map cell_on tracks.old)) (with_cells (bare_cells (S.roster store.now))))
+        (length (S.roster store.now).records)) }
     ensures tracks { OnOk result (tracks.new
         ≡ of_places (track_of (S.roster store.now)) (length (S.roster store.now).records)) }
 {
     for place in 0..store.process_count() {
         let process = ProcessId::at(place as u8);
         let track = track_of(store, process, running);
-        let before = state_on(tracks, place);
-        put_process(text, process, time, stamp, before, track.state)?;
+        let before = track_at(tracks, place);
+        put_process(text, table, process, time, stamp, &before, &track)?;
         tracks[place] = track;
     }
     Ok(())
@@ -452,13 +477,21 @@ fn put_ends(
 ) -> Result<(), AllocError>
     requires { IsStamp stamp.now time }
     ensures { OnOk result (text.new.items ≡ text.old.items
-        ++ texts_of (trace.process_at time stamp.now.ticks (with_cells (map cell_on last.now))
-        none_shown) (length table.now.processes)) }
+        ++ texts_of (trace.process_at table.now time stamp.now.ticks
+        (with_cells (map cell_on last.now)) none_shown) (length table.now.processes)) }
 {
     for place in 0..table.process_count() {
         let process = ProcessId::at(place as u8);
-        let before = state_on(last, place);
-        put_process(text, process, time, stamp, before, State::Dormant)?;
+        let before = track_at(last, place);
+        put_process(
+            text,
+            table,
+            process,
+            time,
+            stamp,
+            &before,
+            &Track::default(),
+        )?;
     }
     Ok(())
 }

@@ -13,6 +13,7 @@ use crate::moments::{CORES, running_of, state_of};
 use crate::stamps::Stamp;
 use crate::trace::{put_processes, put_runs};
 use apex_dispatch::Kernel;
+use apex_machine::Wait;
 use apex_store::Store;
 use apex_table::Table;
 use apex_types::{MOST_CORES, MOST_PROCESSES, ProcessId, State};
@@ -24,6 +25,8 @@ use std::marker::Model;
 #[derive(Clone, Copy)]
 pub(crate) struct Track {
     pub(crate) state: State,
+    /// Its wait, if it waits.
+    pub(crate) wait: Option<Wait>,
 }
 
 impl Default for Track {
@@ -32,14 +35,15 @@ impl Default for Track {
     {
         Track {
             state: State::Dormant,
+            wait: None,
         }
     }
 }
 
-/// All processes after an entry, as a trace shows them: the state of each of them, and the process
-/// that each core runs. It has the counts of the objects too.
+/// All processes after an entry, as a trace shows them: the state of each of them and what it waits
+/// for, and the process that each core runs. It has the counts of the objects too.
 ///
-/// A contract sees a moment whose cells have no wait and no mutex.
+/// A contract sees a moment whose cells have no mutex.
 #[derive(Drop)]
 pub(crate) struct Tracks {
     tracks: ArrayVec<Track, MOST_PROCESSES>,
@@ -76,6 +80,7 @@ pub(crate) fn track_of<S: Store>(
     prove!(u32::from(fields.core.number()) < MOST_CORES);
     Track {
         state: state_of(process, fields, store.mode(), running),
+        wait: fields.wait,
     }
 }
 
@@ -96,13 +101,14 @@ pub(crate) fn tracks_of<S: Store>(store: &S, counts: Counts) -> Tracks
     }
 }
 
-/// The state on the track at a place; DORMANT if there is no such track.
-pub(crate) fn state_on(tracks: &[Track], place: usize) -> State
-    ensures { result ≡ (slice_index_or tracks.now place no_track).state }
+/// The track at a place; that of no process if there is no such track.
+#[inline(always)]
+pub(crate) fn track_at(tracks: &[Track], place: usize) -> Track
+    ensures { result ≡ slice_index_or tracks.now place no_track }
 {
     match tracks.get(place) {
-        Some(track) => track.state,
-        None => State::Dormant,
+        Some(track) => *track,
+        None => Track::default(),
     }
 }
 
@@ -130,7 +136,7 @@ impl Tracks {
         let running = self.running.as_mut_slice();
         put_runs(text, table, store, time, stamp, running)?;
         let (running, tracks) = (self.running.as_slice(), self.tracks.as_mut_slice());
-        put_processes(text, store, running, time, stamp, tracks)
+        put_processes(text, table, store, running, time, stamp, tracks)
     }
 
     /// Brings the counts up to the objects of a kernel, and puts those that change.

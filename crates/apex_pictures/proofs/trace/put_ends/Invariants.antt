@@ -12,5 +12,5 @@ abbrev pub invariant-loop-place : goal.invariant-loop-place
 invariant-loop-place l = record {
   stamp : IsStamp l.stamp l.time;
   many : l.place-end ≡ length l.table.processes;
-  text : l.text.items ≡ l.fn.text.items ++ texts_of (trace.process_at l.time l.stamp.ticks (with_cells (map cell_on l.last)) none_shown) l.place;
+  text : l.text.items ≡ l.fn.text.items ++ texts_of (trace.process_at l.table l.time l.stamp.ticks (with_cells (map cell_on l.last)) none_shown) l.place;
 }

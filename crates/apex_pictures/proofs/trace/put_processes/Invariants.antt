@@ -17,5 +17,5 @@ invariant-loop-place g l =
       end : l.place-end ≡ length roster.records;
       running : l.running ≡ running_in roster;
       tracks : l.tracks ≡ of_places (track_of roster) l.place ++ drop l.place l.fn.tracks;
-      text : l.text.items ≡ l.fn.text.items ++ texts_of (trace.process_at l.time l.stamp.ticks (with_cells (map cell_on l.fn.tracks)) (with_cells (bare_cells roster))) l.place;
+      text : l.text.items ≡ l.fn.text.items ++ texts_of (trace.process_at l.table l.time l.stamp.ticks (with_cells (map cell_on l.fn.tracks)) (with_cells (bare_cells roster))) l.place;
     }
