@@ -12,6 +12,7 @@ ghost use Rattle.apex_pictures.specs.Stamps.{IsStamp, Stamps};
 ghost use Rattle.apex_pictures.specs.Trace as trace;
 ghost use Rattle.apex_pictures.specs.declared.pieces.TheConstants.{PIECE_ROOM};
 ghost use Rattle.apex_pictures.specs.declared.trace.TheConstants.{BEGIN, END, NAME};
+ghost use Rattle.apex_pictures.specs.declared.waits.TheConstants.{WAITING};
 ghost use Rattle.apex_pictures.specs.Tracks.{bare, bare_cells, cell_on, track_of};
 
 use crate::counters::put_first_counts;

@@ -1,9 +1,10 @@
 //! What a waiting process waits for, as the name of its slice in a trace.
-ghost use Rattle.std.specs.Prelude.{◌≡◌, ◌+◌, ◌≤◌, ◌++◌};
+ghost use Rattle.std.specs.Prelude.{◌≡◌, ◌+◌, ◌≤◌, ◌++◌, length};
+ghost use Rattle.apex_types.specs.declared.limits.TheConstants.{MOST_NAME};
 ghost use Rattle.arrayvec.specs.ArrayVec.{array_vec_len};
 ghost use Rattle.apex_pictures.specs.Waits.{awaited_text, named_text, same_thing, same_things, waiting_text};
 ghost use Rattle.apex_pictures.specs.declared.pieces.TheConstants.{PIECE_ROOM};
-ghost use Rattle.apex_pictures.specs.declared.waits.TheConstants.{KIND, WAITING};
+ghost use Rattle.apex_pictures.specs.declared.waits.TheConstants.{KIND, NAMED, WAITING};
 
 use crate::names::{blackboard_name, buffer_name, event_flag_name, mutex_name, semaphore_name};
 use crate::pieces::{Piece, add, add_text};
@@ -15,8 +16,11 @@ use apex_types::MOST_NAME;
 /// The most bytes of the word for a kind of objects.
 const KIND: usize = 10;
 
+/// The most bytes of a kind of objects and the name of one of them.
+const NAMED: usize = KIND + 1 + MOST_ESCAPE * MOST_NAME;
+
 /// The most bytes of the name of a waiting process's slice.
-pub(crate) const WAITING: usize = 12 + KIND + 1 + MOST_ESCAPE * MOST_NAME;
+pub(crate) const WAITING: usize = 12 + NAMED;
 
 /// Two waits are for the same thing.
 #[inline(always)]
@@ -74,10 +78,9 @@ pub(crate) fn are_same_things(before: &Option<Wait>, after: &Option<Wait>) -> bo
 fn add_named(piece: &mut Piece, kind: &str, name: &[u8])
     requires kind { length kind.now ≤ KIND }
     requires name { length name.now ≤ MOST_NAME }
-    requires room { array_vec_len piece.old + KIND + 1 + MOST_ESCAPE * MOST_NAME ≤ PIECE_ROOM }
+    requires room { array_vec_len piece.old + NAMED ≤ PIECE_ROOM }
     ensures text { piece.new.items ≡ piece.old.items ++ named_text kind.now name.now }
-    ensures short { array_vec_len piece.new
-        ≤ array_vec_len piece.old + KIND + 1 + MOST_ESCAPE * MOST_NAME }
+    ensures short { array_vec_len piece.new ≤ array_vec_len piece.old + NAMED }
 {
     add(piece, kind);
     add_text(piece, *b" ");
@@ -86,10 +89,9 @@ fn add_named(piece: &mut Piece, kind: &str, name: &[u8])
 
 /// Adds what a wait is for: its word, or the kind and the name of the object.
 fn add_awaited(piece: &mut Piece, table: &Table, wait: &Wait)
-    requires room { array_vec_len piece.old + KIND + 1 + MOST_ESCAPE * MOST_NAME ≤ PIECE_ROOM }
+    requires room { array_vec_len piece.old + NAMED ≤ PIECE_ROOM }
     ensures text { piece.new.items ≡ piece.old.items ++ awaited_text table.now wait.now }
-    ensures short { array_vec_len piece.new
-        ≤ array_vec_len piece.old + KIND + 1 + MOST_ESCAPE * MOST_NAME }
+    ensures short { array_vec_len piece.new ≤ array_vec_len piece.old + NAMED }
 {
     match wait {
         Wait::Normal(_) => add_text(piece, *b"normal"),
