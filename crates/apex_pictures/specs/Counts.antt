@@ -1,13 +1,23 @@
--- What the objects of a partition hold: the value of each semaphore, and the number of messages in each buffer.
-use Rattle.std.specs.Prelude.{◌≡◌, ℕ, List, [], length}
+-- What the objects of a partition hold: a count of each object of four kinds, and the owner of each mutex.
+use Rattle.std.specs.Prelude.{◌≡◌, ℕ, Bool, List, [], length, Option, is_some, if◌then◌else◌}
+use Rattle.apex_machine.specs.services.BlackboardServices.{blackboard_kind}
 use Rattle.apex_machine.specs.services.BufferServices.{buffer_kind}
+use Rattle.apex_machine.specs.services.EventFlagServices.{event_flag_kind}
+use Rattle.apex_machine.specs.services.SemaphoreServices.{semaphore_kind}
 use Rattle.apex_machine.specs.text.Listing.{object_in}
 use Rattle.apex_machine.specs.Deeds.{Objects}
 use Rattle.apex_machine.specs.Machine.{objects_after}
-use Rattle.apex_machine.specs.services.SemaphoreServices.{semaphore_kind}
+use Rattle.apex_machine.specs.processes.Owners.{owner}
+use Rattle.apex_machine.specs.processes.Roster.{Roster}
 use Rattle.apex_machine.specs.table.Table.{Table}
 use Rattle.apex_pictures.specs.Places.{of_places}
 use Rattle.apex_pictures.specs.Terms.{Entry}
+use Rattle.apex_pictures.specs.declared.kinds.Kind.{Kind}
+use Rattle.apex_pictures.specs.declared.kinds.Kind.TheVariants.{Semaphore, Buffer, Blackboard, EventFlag}
+
+-- 1 for yes, 0 for no
+abbrev pub one_if : Bool → ℕ
+one_if holds = if holds then 1 else 0
 
 -- the value of semaphore s
 abbrev pub value_of : Objects → ℕ → ℕ
@@ -17,35 +27,66 @@ value_of objects s = (object_in semaphore_kind objects.semaphores s).value
 abbrev pub content_of : Objects → ℕ → ℕ
 content_of objects b = length (object_in buffer_kind objects.buffers b).messages
 
--- a value for each semaphore, and a number of messages for each buffer
+-- the number of messages that blackboard b displays: 1 or 0
+abbrev pub displayed_on : Objects → ℕ → ℕ
+displayed_on objects b = one_if (is_some (object_in blackboard_kind objects.blackboards b).message)
+
+-- 1 if event flag e is up, and else 0
+abbrev pub raised_of : Objects → ℕ → ℕ
+raised_of objects e = one_if (object_in event_flag_kind objects.event_flags e).up
+
+-- the count of the object of a kind at place i
+abbrev pub count_of : Objects → Kind → ℕ → ℕ
+count_of objects Semaphore i = value_of objects i
+count_of objects Buffer i = content_of objects i
+count_of objects Blackboard i = displayed_on objects i
+count_of objects EventFlag i = raised_of objects i
+
+-- the number of objects of a kind that a table has
+abbrev pub object_count : Table → Kind → ℕ
+object_count table Semaphore = length table.semaphores
+object_count table Buffer = length table.buffers
+object_count table Blackboard = length table.blackboards
+object_count table EventFlag = length table.event_flags
+
+-- the counts of all objects of a kind
+abbrev pub counts_in : Table → Objects → Kind → List ℕ
+counts_in table objects kind = of_places (count_of objects kind) (object_count table kind)
+
+-- a count for each object of the four kinds, and the owner of each mutex
 pub record Counts : Type 0 where
   pub values : List ℕ
   pub contents : List ℕ
+  pub displays : List ℕ
+  pub flags : List ℕ
+  pub owners : List (Option ℕ)
 
 -- the counts of no object
 abbrev pub no_counts : Counts
-no_counts = record { values = []; contents = [] }
+no_counts = record { values = []; contents = []; displays = []; flags = []; owners = [] }
 
--- these values, and no contents
-abbrev pub with_values : List ℕ → Counts
-with_values values = record no_counts { values = values }
+-- the owner of each mutex of a table
+abbrev pub owners_in : Table → Roster → List (Option ℕ)
+owners_in table roster = of_places (owner roster) (length table.mutexes)
 
--- these contents, and no values
-abbrev pub with_contents : List ℕ → Counts
-with_contents contents = record no_counts { contents = contents }
-
--- the counts of the objects of a table
-unfoldable pub counts_of : Table → Objects → Counts
-counts_of table objects = record {
-  values = of_places (value_of objects) (length table.semaphores);
-  contents = of_places (content_of objects) (length table.buffers);
+-- the counts of the objects of a table, and the owners of its mutexes
+unfoldable pub counts_of : Table → Roster → Objects → Counts
+counts_of table roster objects = record {
+  values = counts_in table objects Semaphore;
+  contents = counts_in table objects Buffer;
+  displays = counts_in table objects Blackboard;
+  flags = counts_in table objects EventFlag;
+  owners = owners_in table roster;
 }
 
--- the counts after these entries
-abbrev pub counts_after : Table → List Entry → Counts
-counts_after table done = counts_of table (objects_after table done)
+-- the counts after these entries, which led to this roster
+abbrev pub counts_after : Table → Roster → List Entry → Counts
+counts_after table roster done = counts_of table roster (objects_after table done)
 
--- there is a value for each semaphore of a table, and a number of messages for each buffer
-abbrev pub HasCounts : Counts → Table → Type 0
-HasCounts counts table =
-    (length counts.values ≡ length table.semaphores) × (length counts.contents ≡ length table.buffers)
+-- there is a count for each object of a table, and an owner or none for each mutex
+pub record HasCounts (counts : Counts) (table : Table) : Type 0 where
+  pub values : length counts.values ≡ object_count table Semaphore
+  pub contents : length counts.contents ≡ object_count table Buffer
+  pub displays : length counts.displays ≡ object_count table Blackboard
+  pub flags : length counts.flags ≡ object_count table EventFlag
+  pub owners : length counts.owners ≡ length table.mutexes

@@ -2,10 +2,11 @@
 use Rattle.std.specs.Prelude.{◌≡◌, ◌+◌, ◌*◌, ◌<◌, ℕ, List, Some, None, length, slice_get, slice_index_or, take}
 use Rattle.apex_types.specs.declared.limits.TheConstants.{MOST_CORES}
 use Rattle.apex_machine.specs.Machine.{Machine, accept, objects_after, opening, run}
+use Rattle.apex_machine.specs.processes.Owners.{owner}
 use Rattle.apex_machine.specs.processes.Roster.{Roster, record_at}
 use Rattle.apex_machine.specs.processes.Running.{chosen, process_state}
 use Rattle.apex_machine.specs.table.Table.{IsLawful, Table}
-use Rattle.apex_pictures.specs.Counts.{Counts, content_of, value_of}
+use Rattle.apex_pictures.specs.Counts.{Counts, content_of, displayed_on, raised_of, value_of}
 use Rattle.apex_pictures.specs.Instants.{hundredths, instant_after}
 use Rattle.apex_pictures.specs.Moments.{Column, no_cell, picture}
 use Rattle.apex_pictures.specs.Terms.{Cell, Entry, Event}
@@ -14,17 +15,21 @@ use Rattle.apex_pictures.specs.Terms.{Cell, Entry, Event}
 abbrev pub cell_in : Column → ℕ → Cell
 cell_in column p = slice_index_or column.after.cells p no_cell
 
--- the counts are those after these entries: the value of each semaphore, and the number of messages in each
--- buffer
+-- the counts are those after these entries: the value of each semaphore, the number of messages in each buffer
+-- and on each blackboard, and whether each event flag is up
 pub record CountsAll (table : Table) (done : List Entry) (counts : Counts) : Type 0 where
   pub values : (s : ℕ) → s < length table.semaphores
       → slice_get counts.values s ≡ Some (value_of (objects_after table done) s)
   pub contents : (b : ℕ) → b < length table.buffers
       → slice_get counts.contents b ≡ Some (content_of (objects_after table done) b)
+  pub displays : (b : ℕ) → b < length table.blackboards
+      → slice_get counts.displays b ≡ Some (displayed_on (objects_after table done) b)
+  pub flags : (e : ℕ) → e < length table.event_flags
+      → slice_get counts.flags e ≡ Some (raised_of (objects_after table done) e)
 
 -- Column k has entry k of the machine's history, and what holds in the roster after that entry: the state of
--- each process, what it waits for and owns, and the process that each core runs. It has the counts of the
--- objects before the entry and after it, and the instant after it.
+-- each process, what it waits for and owns, the process that each core runs, and the owner of each mutex. It has
+-- the counts of the objects before the entry and after it, and the instant after it.
 pub record Says (table : Table) (machine : Machine) (k : ℕ) (column : Column) : Type 0 where
   pub entry : slice_get machine.history k ≡ Some column.entry
   pub instant : column.instant ≡ instant_after (take (k + 1) machine.history)
@@ -38,6 +43,8 @@ pub record Says (table : Table) (machine : Machine) (k : ℕ) (column : Column) 
       → (cell_in column p).owned ≡ (record_at roster p).owned
   pub running : (core : ℕ) → core < MOST_CORES
       → slice_index_or column.after.running core None ≡ chosen roster core
+  pub owners : (m : ℕ) → m < length table.mutexes
+      → slice_get column.after.counts.owners m ≡ Some (owner roster m)
   pub counts_after : CountsAll table (take (k + 1) machine.history) column.after.counts
   pub counts_before : CountsAll table (take k machine.history) column.before.counts
 

@@ -56,7 +56,8 @@ moment_of roster counts = record {
 
 -- the moment of a machine
 abbrev pub moment_in : Table → Machine → Shown
-moment_in table machine = moment_of machine.roster (counts_after table machine.history)
+moment_in table machine =
+    moment_of machine.roster (counts_after table machine.roster machine.history)
 
 -- a column of a picture: an entry, the moments before and after it, and the instant of the latter
 pub record Column : Type 0 where
@@ -69,9 +70,9 @@ pub record Column : Type 0 where
 abbrev pub column_of : Table → List Entry → Roster → Entry → Roster → Column
 column_of table done before entry after = record {
   instant = instant_after (done ++ entry ∷ []);
-  before = moment_of before (counts_after table done);
+  before = moment_of before (counts_after table before done);
   entry = entry;
-  after = moment_of after (counts_after table (done ++ entry ∷ []));
+  after = moment_of after (counts_after table after (done ++ entry ∷ []));
 }
 
 -- the columns of entries, by the entries and the roster before the first, and the roster after each

@@ -1,5 +1,5 @@
 -- The texts of a slice's end and of its beginning, before the number of its track and behind it.
-use Rattle.std.specs.Prelude.{◌≡◌, ◌⊎◌, ℕ, List, ◌++◌, codes, decimal}
+use Rattle.std.specs.Prelude.{◌≡◌, ◌≤◌, ℕ, List, ◌++◌, codes, decimal}
 use Rattle.apex_pictures.specs.Instants.{time_text}
 use Rattle.apex_pictures.specs.declared.stamps.Stamp.{Stamp}
 use Rattle.apex_pictures.specs.declared.trace.Spot.{Spot}
@@ -27,10 +27,10 @@ abbrev pub IsStamp : Stamp → ℕ → Type 0
 IsStamp stamp time =
     (stamp.end.bytes ≡ end_back time) × (stamp.begin.bytes ≡ begin_back time stamp.ticks)
 
--- the group of the cores or of the processes
+-- the group of the cores, of the processes or of the objects
 abbrev pub IsGroup : ℕ → Type 0
-IsGroup group = (group ≡ 1) ⊎ (group ≡ 2)
+IsGroup group = (1 ≤ group) × (group ≤ 3)
 
--- the texts of a stamp are those of this time, on a track of a core or of a process
+-- the texts of a stamp are those of this time, on a track of a core, of a process or of an object
 abbrev pub Stamps : Stamp → Spot → Type 0
 Stamps stamp spot = IsGroup spot.group × IsStamp stamp spot.time

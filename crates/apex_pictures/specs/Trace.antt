@@ -1,8 +1,8 @@
 -- A picture as a trace in the Trace Event Format, which is JSON. The groups of tracks are the cores (1), the
--- processes (2) and the objects (3). A tick is 1,000 units of the axis; times are hundredths of a unit, and the
+-- processes (2) and the objects (3), of which the mutexes have tracks and the others counters. A tick is 1,000 units of the axis; times are hundredths of a unit, and the
 -- partition's time is an argument too.
 use Rattle.std.specs.Prelude.{ℕ, ◌+◌, Bool, true, false, List, [], ◌∷◌, ◌++◌, Option, None, Some, is_some, codes, decimal, flat_map, length, slice_index_or, if◌then◌else◌, ◌==◌, ◌&&◌}
-use Rattle.apex_machine.specs.text.Texts.{id_text, process_name}
+use Rattle.apex_machine.specs.text.Texts.{id_text, mutex_name, process_name}
 use Rattle.apex_calls.specs.Lines.{code_text, deadline_text}
 use Rattle.apex_machine.specs.text.Listing.{texts_of}
 use Rattle.apex_machine.specs.text.Status.{state_text}
@@ -10,7 +10,7 @@ use Rattle.apex_machine.specs.table.Table.{Table}
 use Rattle.apex_types.specs.declared.entries.Notice.TheVariants.{Woken, Released, Missed}
 use Rattle.apex_types.specs.declared.modes.State.TheVariants.{Dormant, Ready, Running, Waiting}
 use Rattle.apex_pictures.specs.Counters.{counters_text}
-use Rattle.apex_pictures.specs.Counts.{no_counts}
+use Rattle.apex_pictures.specs.Counts.{Counts, no_counts}
 use Rattle.apex_pictures.specs.Instants.{time_text}
 use Rattle.apex_pictures.specs.Moments.{Shown, no_cell, none_shown}
 use Rattle.apex_pictures.specs.Stamps.{begin_back}
@@ -37,6 +37,14 @@ process_name_text table p = texts (
     ∷ codes "\"}},\n{\"ph\":\"M\",\"pid\":2,\"tid\":" ∷ id_text p
     ∷ codes ",\"name\":\"thread_sort_index\",\"args\":{\"sort_index\":" ∷ id_text p ∷ codes "}}" ∷ [])
 
+-- the name of a mutex's track, and its place among those of the mutexes
+unfoldable pub mutex_name_text : Table → ℕ → List ℕ
+mutex_name_text table m = texts (
+    codes ",\n{\"ph\":\"M\",\"pid\":3,\"tid\":" ∷ id_text m
+    ∷ codes ",\"name\":\"thread_name\",\"args\":{\"name\":\"mutex " ∷ json_text (mutex_name table m)
+    ∷ codes "\"}},\n{\"ph\":\"M\",\"pid\":3,\"tid\":" ∷ id_text m
+    ∷ codes ",\"name\":\"thread_sort_index\",\"args\":{\"sort_index\":" ∷ id_text m ∷ codes "}}" ∷ [])
+
 -- the beginning of the file: the unit of the ruler, the program and the names of the groups
 unfoldable pub opening_text : List ℕ
 opening_text =
@@ -47,6 +55,7 @@ abbrev pub head_text : Table → Shown → List ℕ
 head_text table first =
     opening_text ++ texts_of core_name_text table.cores
     ++ texts_of (process_name_text table) (length table.processes)
+    ++ texts_of (mutex_name_text table) (length table.mutexes)
     ++ counters_text table 0 no_counts first.counts
 
 -- the end of a slice
@@ -92,11 +101,16 @@ abbrev pub run_of : Table → Spot → ℕ → Option ℕ → List ℕ
 run_of table spot now None = []
 run_of table spot now (Some p) = run_text table spot now p
 
+-- the slice of a mutex's owner, if it has one
+abbrev pub owned_text : Table → Spot → ℕ → Option ℕ → List ℕ
+owned_text table spot now None = []
+owned_text table spot now (Some p) = slice_text spot now (json_text (process_name table p))
+
 -- the end of a slice, if there is one
 abbrev pub ended : Bool → Spot → List ℕ
 ended begun spot = if begun then end_text spot else []
 
--- two cores' processes are the same
+-- two processes are the same, or both are none
 abbrev pub same_process : Option ℕ → Option ℕ → Bool
 same_process None None = true
 same_process None (Some q) = false
@@ -117,6 +131,12 @@ core_text table spot now before after =
     if same_process before after then []
     else ended (is_some before) spot ++ run_of table spot now after
 
+-- the changes on the track of a mutex, by its owner before and after
+abbrev pub mutex_text : Table → Spot → ℕ → Option ℕ → Option ℕ → List ℕ
+mutex_text table spot now before after =
+    if same_process before after then []
+    else ended (is_some before) spot ++ owned_text table spot now after
+
 -- two slices of a process are one: the state is the same, and it waits for the same thing
 abbrev pub same_being : Cell → Cell → Bool
 same_being before after = same_state before.state after.state && same_things before.wait after.wait
@@ -135,6 +155,10 @@ core_spot core time = record { group = 1; track = core; time = time }
 abbrev pub process_spot : ℕ → ℕ → Spot
 process_spot p time = record { group = 2; track = p + 1; time = time }
 
+-- the track of mutex m
+abbrev pub mutex_spot : ℕ → ℕ → Spot
+mutex_spot m time = record { group = 3; track = m + 1; time = time }
+
 -- the changes on the track of this core
 abbrev pub core_at : Table → ℕ → ℕ → Shown → Shown → ℕ → List ℕ
 core_at table time now before after core =
@@ -149,6 +173,23 @@ cell_at shown p = slice_index_or shown.cells p no_cell
 abbrev pub process_at : Table → ℕ → ℕ → Shown → Shown → ℕ → List ℕ
 process_at table time now before after p =
     process_text table (process_spot p time) now (cell_at before p) (cell_at after p)
+
+-- the changes on the track of mutex m, by the owners of all mutexes
+abbrev pub mutex_at : Table → ℕ → ℕ → List (Option ℕ) → List (Option ℕ) → ℕ → List ℕ
+mutex_at table time now before after m =
+    mutex_text table (mutex_spot m time) now
+    (slice_index_or before m None) (slice_index_or after m None)
+
+-- the changes on the tracks of all mutexes
+abbrev pub mutexes_text : Table → ℕ → ℕ → List (Option ℕ) → List (Option ℕ) → List ℕ
+mutexes_text table time now before after =
+    texts_of (mutex_at table time now before after) (length table.mutexes)
+
+-- the changes of what the objects hold: of the counters, and on the tracks of the mutexes
+abbrev pub objects_text : Table → ℕ → ℕ → Counts → Counts → List ℕ
+objects_text table time now before after =
+    counters_text table time before after
+    ++ mutexes_text table time now before.owners after.owners
 
 -- the mark of a notice on the track of process p, by the two words of its name
 abbrev pub mark_text : ℕ → ℕ → ℕ → List ℕ → List ℕ → List ℕ
@@ -169,13 +210,15 @@ changes_text table time now before after =
     texts_of (core_at table time now before after) table.cores
     ++ texts_of (process_at table time now before after) (length table.processes)
 
--- the changes by an entry on the tracks and of the counters, and the marks of its notices
+-- the changes by an entry, and the marks of its notices
 abbrev pub column_text : Table → ℕ → Shown → Entry → Shown → List ℕ
 column_text table time before entry after =
     changes_text table time entry.now before after
-    ++ counters_text table time before.counts after.counts
+    ++ objects_text table time entry.now before.counts after.counts
     ++ flat_map (marked_text time entry.now) entry.notices
 
 -- what comes after the columns: the ends of all slices
 abbrev pub foot_text : Table → ℕ → ℕ → Shown → List ℕ
-foot_text table time now last = changes_text table time now last none_shown ++ codes "\n]}\n"
+foot_text table time now last =
+    changes_text table time now last none_shown
+    ++ mutexes_text table time now last.counts.owners [] ++ codes "\n]}\n"

@@ -1,51 +1,39 @@
-//! The counters of a trace: the value of each semaphore and the content of each buffer, as they
-//! change.
-ghost use Rattle.std.specs.Prelude.{◌≡◌, ◌<◌, ◌++◌, OnOk, codes, length};
-ghost use Rattle.apex_machine.specs.text.Listing.{texts_of};
-ghost use Rattle.apex_machine.specs.text.Texts.{buffer_name, semaphore_name};
-ghost use Rattle.apex_pictures.specs.Counters.{change_text, content_at, counter_text, counters_text, same_count, value_at};
-ghost use Rattle.apex_pictures.specs.Counts.{content_of, no_counts, value_of, with_contents, with_values};
-ghost use Rattle.apex_pictures.specs.Places.{of_places};
+//! The counters of a trace: what is counted of each object, as it changes.
+ghost use Rattle.std.specs.Prelude.{◌≡◌, ◌++◌, [], OnOk, length};
+ghost use Rattle.apex_pictures.specs.Counters.{change_text, count_at, counter_text, counters_text, kind_text, same_count};
+ghost use Rattle.apex_pictures.specs.Counts.{counts_in, no_counts, object_count};
 
-use crate::counts::{Counts, content_of, count_at, value_of};
+use crate::counts::{Counts, count_at};
 use crate::instants::time_text;
+use crate::kinds::Kind;
 use crate::texts::{put, put_number};
-use apex_dispatch::Kernel;
+use apex_dispatch::Objects;
 use apex_json::put_json;
-use apex_store::Store;
 use apex_table::Table;
-use apex_types::{BufferId, SemaphoreId};
 use std::alloc::AllocError;
 
-/// The object of a counter, and the texts before its name and behind it.
-#[derive(Clone, Copy)]
-struct Counter<'a> {
-    front: &'a str,
-    name: &'a [u8],
-    back: &'a str,
-}
-
-/// Puts the count of an object.
+/// Puts the count of an object of this kind and name.
 #[tactic(auto, using(std::proofs::Common::append_assoc))]
 fn put_count(
     text: &mut Vec<u8>,
-    counter: &Counter<'_>,
     time: u64,
+    kind: Kind,
+    name: &[u8],
     count: u64,
 ) -> Result<(), AllocError>
     ensures { OnOk result (text.new.items ≡ text.old.items
-        ++ counter_text counter.now.front.now counter.now.name.now counter.now.back.now time
-        count) }
+        ++ counter_text kind name.now time count) }
 {
     put(text, ",\n{\"ph\":\"C\",\"pid\":3,\"ts\":")?;
     put(text, time_text(time).as_str())?;
-    put(text, counter.front)?;
-    put_json(text, counter.name)?;
-    put(text, counter.back)?;
+    put(text, kind.front())?;
+    put_json(text, name)?;
+    put(text, kind.back())?;
     put_number(text, count)?;
     put(text, "}}")
 }
 
+#[inline(always)]
 fn is_same_count(before: &Option<u64>, count: u64) -> bool
     ensures { result ≡ same_count before.now count }
 {
@@ -55,108 +43,55 @@ fn is_same_count(before: &Option<u64>, count: u64) -> bool
     }
 }
 
-/// Puts the value of a semaphore, if it is not the one before.
-fn put_value(
+/// Puts the count of the object of a kind at a place, if it is not the one before.
+#[inline(always)]
+fn put_change(
     text: &mut Vec<u8>,
     table: &Table,
     time: u64,
-    semaphore: SemaphoreId,
+    kind: Kind,
+    place: u8,
     before: &Option<u64>,
     count: u64,
 ) -> Result<(), AllocError>
-    requires { semaphore < length table.now.semaphores }
     ensures { OnOk result (text.new.items ≡ text.old.items
-        ++ change_text (codes "semaphore") (semaphore_name table.now semaphore) (codes "value")
-        time before.now count) }
+        ++ change_text table.now time kind place before.now count) }
 {
     if is_same_count(before, count) {
         return Ok(());
     }
-    let counter = Counter {
-        front: ",\"name\":\"semaphore ",
-        name: table.semaphore(semaphore).name().as_bytes(),
-        back: "\",\"args\":{\"value\":",
-    };
-    put_count(text, &counter, time, count)
+    put_count(text, time, kind, kind.object_name(table, place), count)
 }
 
-/// Puts the content of a buffer, if it is not the one before.
-fn put_content(
+/// Puts the first count of the object of a kind at a place, if it has one.
+fn put_first(
     text: &mut Vec<u8>,
     table: &Table,
-    time: u64,
-    buffer: BufferId,
-    before: &Option<u64>,
-    count: u64,
+    kind: Kind,
+    first: &[u64],
+    place: u8,
 ) -> Result<(), AllocError>
-    requires { buffer < length table.now.buffers }
     ensures { OnOk result (text.new.items ≡ text.old.items
-        ++ change_text (codes "buffer") (buffer_name table.now buffer) (codes "messages")
-        time before.now count) }
+        ++ count_at table.now 0 kind [] first.now place) }
 {
-    if is_same_count(before, count) {
-        return Ok(());
-    }
-    let counter = Counter {
-        front: ",\"name\":\"buffer ",
-        name: table.buffer(buffer).name().as_bytes(),
-        back: "\",\"args\":{\"messages\":",
-    };
-    put_count(text, &counter, time, count)
-}
-
-/// Puts the first value of a semaphore, if it has one.
-fn put_first_value(
-    text: &mut Vec<u8>,
-    table: &Table,
-    first: &Counts,
-    semaphore: SemaphoreId,
-) -> Result<(), AllocError>
-    requires { semaphore < length table.now.semaphores }
-    ensures { OnOk result (text.new.items ≡ text.old.items
-        ++ value_at table.now 0 no_counts first.now semaphore) }
-{
-    match first.value(semaphore) {
-        Some(count) => put_value(text, table, 0, semaphore, &None, count),
+    match count_at(first, usize::from(place)) {
+        Some(count) => put_change(text, table, 0, kind, place, &None, count),
         None => Ok(()),
     }
 }
 
-/// Puts the first content of a buffer, if it has one.
-fn put_first_content(
+/// Puts the first counts of all objects of a kind.
+fn put_firsts(
     text: &mut Vec<u8>,
     table: &Table,
-    first: &Counts,
-    buffer: BufferId,
+    kind: Kind,
+    first: &[u64],
 ) -> Result<(), AllocError>
-    requires { buffer < length table.now.buffers }
     ensures { OnOk result (text.new.items ≡ text.old.items
-        ++ content_at table.now 0 no_counts first.now buffer) }
+        ++ kind_text table.now 0 kind [] first.now) }
 {
-    match first.content(buffer) {
-        Some(count) => put_content(text, table, 0, buffer, &None, count),
-        None => Ok(()),
-    }
-}
-
-/// Puts the first value of each semaphore.
-fn put_first_values(text: &mut Vec<u8>, table: &Table, first: &Counts) -> Result<(), AllocError>
-    ensures { OnOk result (text.new.items ≡ text.old.items
-        ++ texts_of (value_at table.now 0 no_counts first.now) (length table.now.semaphores)) }
-{
-    for place in 0..table.semaphore_count() {
-        put_first_value(text, table, first, SemaphoreId::at(place as u8))?;
-    }
-    Ok(())
-}
-
-/// Puts the first content of each buffer.
-fn put_first_contents(text: &mut Vec<u8>, table: &Table, first: &Counts) -> Result<(), AllocError>
-    ensures { OnOk result (text.new.items ≡ text.old.items
-        ++ texts_of (content_at table.now 0 no_counts first.now) (length table.now.buffers)) }
-{
-    for place in 0..table.buffer_count() {
-        put_first_content(text, table, first, BufferId::at(place as u8))?;
+    for place in 0..kind.object_count(table) {
+        put_first(text, table, kind, first, place as u8)?;
     }
     Ok(())
 }
@@ -171,58 +106,33 @@ pub(crate) fn put_first_counts(
     ensures { OnOk result (text.new.items ≡ text.old.items
         ++ counters_text table.now 0 no_counts first.now) }
 {
-    put_first_values(text, table, first)?;
-    put_first_contents(text, table, first)
+    put_firsts(text, table, Kind::Semaphore, first.values())?;
+    put_firsts(text, table, Kind::Buffer, first.contents())?;
+    put_firsts(text, table, Kind::Blackboard, first.displays())?;
+    put_firsts(text, table, Kind::EventFlag, first.flags())
 }
 
-/// Brings the values up to the semaphores of a kernel, and puts those that change.
-pub(crate) fn put_values<S: Store>(
+/// Brings the counts of a kind up to these objects, and puts those that change.
+// Inlined, so that each kind has a loop of its own.
+#[inline(always)]
+pub(crate) fn put_kind(
     text: &mut Vec<u8>,
-    kernel: &Kernel<S>,
+    table: &Table,
+    objects: &Objects,
     time: u64,
-    values: &mut [u64],
+    kind: Kind,
+    counts: &mut [u64],
 ) -> Result<(), AllocError>
-    requires { length values.old ≡ length kernel.now.table.semaphores }
+    requires { length counts.old ≡ object_count table.now kind }
     ensures text { OnOk result (text.new.items ≡ text.old.items
-        ++ texts_of (value_at kernel.now.table time (with_values values.old)
-        (with_values (of_places (value_of kernel.now.objects)
-        (length kernel.now.table.semaphores)))) (length kernel.now.table.semaphores)) }
-    ensures values { OnOk result (values.new
-        ≡ of_places (value_of kernel.now.objects) (length kernel.now.table.semaphores)) }
+        ++ kind_text table.now time kind counts.old (counts_in table.now objects.now kind)) }
+    ensures counts { OnOk result (counts.new ≡ counts_in table.now objects.now kind) }
 {
-    let table = kernel.table();
-    for place in 0..table.semaphore_count() {
-        let semaphore = SemaphoreId::at(place as u8);
-        let count = value_of(kernel, semaphore);
-        let before = count_at(values, place);
-        put_value(text, table, time, semaphore, &before, count)?;
-        values[place] = count;
-    }
-    Ok(())
-}
-
-/// Brings the contents up to the buffers of a kernel, and puts those that change.
-pub(crate) fn put_contents<S: Store>(
-    text: &mut Vec<u8>,
-    kernel: &Kernel<S>,
-    time: u64,
-    contents: &mut [u64],
-) -> Result<(), AllocError>
-    requires { length contents.old ≡ length kernel.now.table.buffers }
-    ensures text { OnOk result (text.new.items ≡ text.old.items
-        ++ texts_of (content_at kernel.now.table time (with_contents contents.old)
-        (with_contents (of_places (content_of kernel.now.objects)
-        (length kernel.now.table.buffers)))) (length kernel.now.table.buffers)) }
-    ensures contents { OnOk result (contents.new
-        ≡ of_places (content_of kernel.now.objects) (length kernel.now.table.buffers)) }
-{
-    let table = kernel.table();
-    for place in 0..table.buffer_count() {
-        let buffer = BufferId::at(place as u8);
-        let count = content_of(kernel, buffer);
-        let before = count_at(contents, place);
-        put_content(text, table, time, buffer, &before, count)?;
-        contents[place] = count;
+    for place in 0..kind.object_count(table) {
+        let count = kind.count_of(objects, place as u8);
+        let before = count_at(counts, place);
+        put_change(text, table, time, kind, place as u8, &before, count)?;
+        counts[place] = count;
     }
     Ok(())
 }

@@ -1,24 +1,32 @@
-//! What the objects of a partition hold: the value of each semaphore, and the number of messages in
-//! each buffer.
-ghost use Rattle.std.specs.Prelude.{◌≡◌, ◌++◌, OnOk, slice_get, length};
-ghost use Rattle.apex_pictures.specs.Counters.{counters_text};
-ghost use Rattle.apex_pictures.specs.Counts.{HasCounts, content_of, counts_of, value_of};
-ghost use Rattle.apex_pictures.specs.Places.{of_places};
+//! What the objects of a partition hold: a count of each object of four kinds, and the owner of each
+//! mutex.
+ghost use Rattle.std.specs.Prelude.{◌≡◌, ◌++◌, OnOk, slice_get};
+ghost use Rattle.apex_pictures.specs.Counts.{HasCounts, counts_in, counts_of, owners_in};
+ghost use Rattle.apex_pictures.specs.Stamps.{IsStamp};
+ghost use Rattle.apex_pictures.specs.Trace.{objects_text};
 
-use crate::counters::{put_contents, put_values};
-use apex_dispatch::Kernel;
+use crate::counters::put_kind;
+use crate::kinds::Kind;
+use crate::mutexes::put_mutexes;
+use crate::stamps::Stamp;
+use apex_dispatch::{Kernel, Objects};
 use apex_store::Store;
-use apex_types::{BufferId, MOST_OBJECTS, SemaphoreId};
+use apex_table::Table;
+use apex_types::{MOST_OBJECTS, MutexId, ProcessId};
 use arrayvec::ArrayVec;
 use std::alloc::AllocError;
 use std::marker::Model;
 
-/// What the objects of a partition hold: a value for each semaphore, and a number of messages for
-/// each buffer, created or not.
+/// What the objects of a partition hold: a value for each semaphore, a number of messages for each
+/// buffer and each blackboard, 1 for each event flag that is up and 0 for the others, and the owner
+/// of each mutex. They are created or not.
 #[derive(Drop)]
 pub struct Counts {
     values: ArrayVec<u64, MOST_OBJECTS>,
     contents: ArrayVec<u64, MOST_OBJECTS>,
+    displays: ArrayVec<u64, MOST_OBJECTS>,
+    flags: ArrayVec<u64, MOST_OBJECTS>,
+    owners: ArrayVec<Option<ProcessId>, MOST_OBJECTS>,
 }
 
 impl Model for Counts {
@@ -26,59 +34,55 @@ impl Model for Counts {
 
     ghost Value = { Counts };
 
-    ghost view = { λ c. record { values = c.values.items; contents = c.contents.items } };
+    ghost view = { λ c. record {
+      values = c.values.items;
+      contents = c.contents.items;
+      displays = c.displays.items;
+      flags = c.flags.items;
+      owners = c.owners.items;
+    } };
 }
 
-/// The value of a semaphore; 0 if there is no such semaphore.
-pub(crate) fn value_of<S: Store>(kernel: &Kernel<S>, semaphore: SemaphoreId) -> u64
-    ensures { result ≡ value_of kernel.now.objects semaphore }
+/// The counts of all objects of a kind.
+fn counts_in(table: &Table, objects: &Objects, kind: Kind) -> ArrayVec<u64, MOST_OBJECTS>
+    ensures { result.items ≡ counts_in table.now objects.now kind }
 {
-    u64::from(kernel.semaphore_value(semaphore).unwrap_or(0))
-}
-
-/// The number of messages in a buffer; 0 if there is no such buffer.
-pub(crate) fn content_of<S: Store>(kernel: &Kernel<S>, buffer: BufferId) -> u64
-    ensures { result ≡ content_of kernel.now.objects buffer }
-{
-    kernel.message_count(buffer).unwrap_or(0) as u64
-}
-
-/// The value of each semaphore.
-fn values_of<S: Store>(kernel: &Kernel<S>) -> ArrayVec<u64, MOST_OBJECTS>
-    ensures { result.items
-        ≡ of_places (value_of kernel.now.objects) (length kernel.now.table.semaphores) }
-{
-    let mut values = ArrayVec::new();
-    for place in 0..kernel.table().semaphore_count() {
-        values.push(value_of(kernel, SemaphoreId::at(place as u8)));
+    let mut counts = ArrayVec::new();
+    for place in 0..kind.object_count(table) {
+        counts.push(kind.count_of(objects, place as u8));
     }
-    values
+    counts
 }
 
-/// The number of messages in each buffer.
-fn contents_of<S: Store>(kernel: &Kernel<S>) -> ArrayVec<u64, MOST_OBJECTS>
-    ensures { result.items
-        ≡ of_places (content_of kernel.now.objects) (length kernel.now.table.buffers) }
+/// The owner of each mutex.
+fn owners_in<S: Store>(table: &Table, store: &S) -> ArrayVec<Option<ProcessId>, MOST_OBJECTS>
+    ensures { result.items ≡ owners_in table.now (S.roster store.now) }
 {
-    let mut contents = ArrayVec::new();
-    for place in 0..kernel.table().buffer_count() {
-        contents.push(content_of(kernel, BufferId::at(place as u8)));
+    let mut owners = ArrayVec::new();
+    for place in 0..table.mutex_count() {
+        owners.push(store.owner(MutexId::at(place as u8)));
     }
-    contents
+    owners
 }
 
-/// The counts of a kernel's objects.
+/// The counts of a kernel's objects, and the owners of its mutexes.
 #[tactic(auto, unfolding(crate::specs::Counts::counts_of))]
 pub(crate) fn counts_of<S: Store>(kernel: &Kernel<S>) -> Counts
-    ensures { result ≡ counts_of kernel.now.table kernel.now.objects }
+    ensures { result ≡ counts_of kernel.now.table kernel.now.machine.roster kernel.now.objects }
 {
+    kernel.holds();
+    let (table, objects) = (kernel.table(), kernel.situation().objects());
     Counts {
-        values: values_of(kernel),
-        contents: contents_of(kernel),
+        values: counts_in(table, objects, Kind::Semaphore),
+        contents: counts_in(table, objects, Kind::Buffer),
+        displays: counts_in(table, objects, Kind::Blackboard),
+        flags: counts_in(table, objects, Kind::EventFlag),
+        owners: owners_in(table, kernel.store()),
     }
 }
 
 /// The count at a place.
+#[inline(always)]
 pub(crate) fn count_at(counts: &[u64], place: usize) -> Option<u64>
     ensures { result ≡ slice_get counts.now place }
 {
@@ -86,34 +90,64 @@ pub(crate) fn count_at(counts: &[u64], place: usize) -> Option<u64>
 }
 
 impl Counts {
-    /// Brings the counts up to the objects of a kernel, and puts those that change.
+    /// Brings the counts up to the objects of a kernel, and puts those that change and the changes
+    /// on the tracks of the mutexes.
     pub(crate) fn put_changes<S: Store>(
         &mut self,
         text: &mut Vec<u8>,
         kernel: &Kernel<S>,
         time: u64,
+        stamp: &Stamp,
     ) -> Result<(), AllocError>
-        requires { HasCounts self.old kernel.now.table }
+        requires stamp { IsStamp stamp.now time }
+        requires counts { HasCounts self.old kernel.now.table }
         ensures text { OnOk result (text.new.items ≡ text.old.items
-            ++ counters_text kernel.now.table time self.old
-            (counts_of kernel.now.table kernel.now.objects)) }
-        ensures counts { OnOk result (self.new ≡ counts_of kernel.now.table kernel.now.objects) }
+            ++ objects_text kernel.now.table time stamp.now.ticks self.old
+            (counts_of kernel.now.table kernel.now.machine.roster kernel.now.objects)) }
+        ensures counts { OnOk result (self.new
+            ≡ counts_of kernel.now.table kernel.now.machine.roster kernel.now.objects) }
     {
-        put_values(text, kernel, time, self.values.as_mut_slice())?;
-        put_contents(text, kernel, time, self.contents.as_mut_slice())
+        kernel.holds();
+        let (table, objects) = (kernel.table(), kernel.situation().objects());
+        put_kind(text, table, objects, time, Kind::Semaphore, self.values.as_mut_slice())?;
+        put_kind(text, table, objects, time, Kind::Buffer, self.contents.as_mut_slice())?;
+        put_kind(text, table, objects, time, Kind::Blackboard, self.displays.as_mut_slice())?;
+        put_kind(text, table, objects, time, Kind::EventFlag, self.flags.as_mut_slice())?;
+        put_mutexes(text, table, kernel.store(), time, stamp, self.owners.as_mut_slice())
     }
 
-    /// The value of a semaphore. None if there is no such semaphore.
-    pub fn value(&self, semaphore: SemaphoreId) -> Option<u64>
-        ensures { result ≡ slice_get self.now.values semaphore }
+    /// The value of each semaphore.
+    pub fn values(&self) -> &[u64]
+        ensures { result.now ≡ self.now.values }
     {
-        count_at(self.values.as_slice(), semaphore.place())
+        self.values.as_slice()
     }
 
-    /// The number of messages in a buffer. None if there is no such buffer.
-    pub fn content(&self, buffer: BufferId) -> Option<u64>
-        ensures { result ≡ slice_get self.now.contents buffer }
+    /// The number of messages in each buffer.
+    pub fn contents(&self) -> &[u64]
+        ensures { result.now ≡ self.now.contents }
     {
-        count_at(self.contents.as_slice(), buffer.place())
+        self.contents.as_slice()
+    }
+
+    /// The number of messages that each blackboard displays: 1 or 0.
+    pub fn displays(&self) -> &[u64]
+        ensures { result.now ≡ self.now.displays }
+    {
+        self.displays.as_slice()
+    }
+
+    /// 1 for each event flag that is up, and 0 for the others.
+    pub fn flags(&self) -> &[u64]
+        ensures { result.now ≡ self.now.flags }
+    {
+        self.flags.as_slice()
+    }
+
+    /// The owner of each mutex.
+    pub fn owners(&self) -> &[Option<ProcessId>]
+        ensures { result.now ≡ self.now.owners }
+    {
+        self.owners.as_slice()
     }
 }

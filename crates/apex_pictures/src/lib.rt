@@ -1,6 +1,6 @@
 //! Pictures of a partition's history: the state of each process after each entry, drawn as SVG, or
-//! written as a trace in the Trace Event Format, with the value of each semaphore and the content
-//! of each buffer.
+//! written as a trace in the Trace Event Format, with the counts of the
+//! objects and the owner of each mutex.
 #![tactic(auto)]
 
 mod counters;
@@ -9,9 +9,11 @@ mod drawing;
 mod excerpts;
 mod frames;
 mod instants;
+mod kinds;
 mod laws;
 mod marks;
 mod moments;
+mod mutexes;
 mod names;
 mod pieces;
 mod stamps;

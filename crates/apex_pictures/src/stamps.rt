@@ -75,10 +75,12 @@ pub(crate) fn end_front(group: u8) -> &'static str
     ensures len { length result.now ≡ FRONT }
 {
     if group == 1 {
-        ",\n{\"ph\":\"E\",\"pid\":1,\"tid\":"
-    } else {
-        ",\n{\"ph\":\"E\",\"pid\":2,\"tid\":"
+        return ",\n{\"ph\":\"E\",\"pid\":1,\"tid\":";
     }
+    if group == 2 {
+        return ",\n{\"ph\":\"E\",\"pid\":2,\"tid\":";
+    }
+    ",\n{\"ph\":\"E\",\"pid\":3,\"tid\":"
 }
 
 /// What is before the number of a track of a group at the beginning of a slice.
@@ -89,8 +91,10 @@ pub(crate) fn begin_front(group: u8) -> &'static str
     ensures len { length result.now ≡ FRONT }
 {
     if group == 1 {
-        ",\n{\"ph\":\"B\",\"pid\":1,\"tid\":"
-    } else {
-        ",\n{\"ph\":\"B\",\"pid\":2,\"tid\":"
+        return ",\n{\"ph\":\"B\",\"pid\":1,\"tid\":";
     }
+    if group == 2 {
+        return ",\n{\"ph\":\"B\",\"pid\":2,\"tid\":";
+    }
+    ",\n{\"ph\":\"B\",\"pid\":3,\"tid\":"
 }

@@ -1,5 +1,5 @@
-//! A picture as a trace in the Trace Event Format, which is JSON: tracks of the cores and of the
-//! processes, and counters of the objects. A tick is 1,000 units of the axis; times are hundredths
+//! A picture as a trace in the Trace Event Format, which is JSON: tracks of the cores, of the
+//! processes and of the mutexes, and counters of the other objects. A tick is 1,000 units of the axis; times are hundredths
 //! of a unit, and the partition's time is an argument too.
 ghost use Rattle.std.specs.Prelude.{◌≡◌, ◌+◌, ◌≤◌, ◌++◌, flat_map, is_some, length, map, OnOk};
 ghost use Rattle.arrayvec.specs.ArrayVec.{array_vec_len};
@@ -17,6 +17,7 @@ ghost use Rattle.apex_pictures.specs.Tracks.{bare, bare_cells, cell_on, track_of
 
 use crate::counters::put_first_counts;
 use crate::moments::{CORES, running_at};
+use crate::mutexes::{put_mutex_ends, put_mutex_names};
 use crate::pieces::{Piece, add, add_number, add_text};
 use crate::stamps::{BEGIN_ROOM, END_ROOM, FRONT, Stamp, begin_front, end_front};
 use crate::texts::{Part, put, put_all};
@@ -27,13 +28,13 @@ use apex_dispatch::Kernel;
 use apex_json::{MOST_ESCAPE, add_json};
 use apex_store::Store;
 use apex_table::Table;
-use apex_types::{CoreId, LentEntry, MOST_NAME, Notice, ProcessId, State};
+use apex_types::{CoreId, LentEntry, MOST_NAME, MutexId, Notice, ProcessId, State};
 use std::alloc::AllocError;
 
 /// The place of a slice or a mark in a trace: its group, its track and its time.
 #[derive(Clone, Copy)]
 pub(crate) struct Spot {
-    /// 1 of the cores, 2 of the processes.
+    /// 1 of the cores, 2 of the processes, 3 of the objects.
     group: u8,
     track: u32,
     /// In hundredths of a unit.
@@ -121,6 +122,7 @@ pub(crate) fn put_head(text: &mut Vec<u8>, table: &Table, first: &Tracks) -> Res
     put_opening(text)?;
     put_core_names(text, table)?;
     put_process_names(text, table)?;
+    put_mutex_names(text, table)?;
     put_first_counts(text, table, first.counts())
 }
 
@@ -128,11 +130,11 @@ pub(crate) fn put_head(text: &mut Vec<u8>, table: &Table, first: &Tracks) -> Res
 const END: usize = FRONT + 10 + END_ROOM;
 
 /// The most bytes of the beginning of a slice, up to its name.
-const BEGIN: usize = FRONT + 10 + BEGIN_ROOM;
+pub(crate) const BEGIN: usize = FRONT + 10 + BEGIN_ROOM;
 
 /// The most bytes of the name of a slice and of what is behind it: the number of a process, and its
 /// name, of which JSON escapes each byte at the most.
-const NAME: usize = 10 + 1 + MOST_ESCAPE * MOST_NAME + 2;
+pub(crate) const NAME: usize = 10 + 1 + MOST_ESCAPE * MOST_NAME + 2;
 
 /// Adds the end of a slice.
 #[inline(always)]
@@ -149,7 +151,7 @@ fn add_end(piece: &mut Piece, spot: Spot, stamp: &Stamp)
 
 /// Adds the beginning of a slice, up to its name.
 #[inline(always)]
-fn add_begin(piece: &mut Piece, spot: Spot, stamp: &Stamp)
+pub(crate) fn add_begin(piece: &mut Piece, spot: Spot, stamp: &Stamp)
     requires stamps { Stamps stamp.now spot }
     requires room { array_vec_len piece.old + BEGIN ≤ PIECE_ROOM }
     ensures text { piece.new.items ≡ piece.old.items ++ trace.begin_text spot stamp.now.ticks }
@@ -221,7 +223,7 @@ fn add_being(piece: &mut Piece, table: &Table, spot: Spot, stamp: &Stamp, track:
 
 /// Adds the end of a slice, if there is one.
 #[inline(always)]
-fn add_ended(piece: &mut Piece, spot: Spot, stamp: &Stamp, begun: bool)
+pub(crate) fn add_ended(piece: &mut Piece, spot: Spot, stamp: &Stamp, begun: bool)
     requires stamps { Stamps stamp.now spot }
     requires room { array_vec_len piece.old + END ≤ PIECE_ROOM }
     ensures text { piece.new.items ≡ piece.old.items ++ trace.ended begun spot }
@@ -233,7 +235,7 @@ fn add_ended(piece: &mut Piece, spot: Spot, stamp: &Stamp, begun: bool)
 }
 
 #[inline(always)]
-fn is_same_process(before: &Option<ProcessId>, after: &Option<ProcessId>) -> bool
+pub(crate) fn is_same_process(before: &Option<ProcessId>, after: &Option<ProcessId>) -> bool
     ensures { result ≡ trace.same_process before.now after.now }
 {
     match before {
@@ -381,6 +383,17 @@ fn process_spot(process: ProcessId, time: u64) -> Spot
     Spot {
         group: 2,
         track: process.number(),
+        time,
+    }
+}
+
+/// The track of a mutex.
+pub(crate) fn mutex_spot(mutex: MutexId, time: u64) -> Spot
+    ensures { result ≡ trace.mutex_spot mutex time }
+{
+    Spot {
+        group: 3,
+        track: mutex.number(),
         time,
     }
 }
@@ -586,7 +599,7 @@ pub(crate) fn put_column<S: Store>(
     let table = kernel.table();
     let stamp = Stamp::new(time, entry.now);
     shown.put_changes(text, table, kernel.store(), time, &stamp)?;
-    shown.put_counts(text, kernel, time)?;
+    shown.put_counts(text, kernel, time, &stamp)?;
     put_marks(text, time, &stamp, entry.notices)
 }
 
@@ -605,5 +618,6 @@ pub(crate) fn put_foot(
     let stamp = Stamp::new(time, now);
     put_cores(text, table, time, &stamp, last.running(), &[])?;
     put_ends(text, table, time, &stamp, last.tracks())?;
+    put_mutex_ends(text, table, time, &stamp, last.counts().owners())?;
     put(text, "\n]}\n")
 }

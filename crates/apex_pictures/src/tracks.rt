@@ -1,11 +1,10 @@
 //! The processes and the counts after an entry, as a trace shows them.
 ghost use Rattle.std.specs.Prelude.{◌≡◌, ◌<◌, ◌≤◌, ◌++◌, length, map, slice_index_or, OnOk};
 ghost use Rattle.apex_types.specs.declared.limits.TheConstants.{MOST_CORES, MOST_PROCESSES};
-ghost use Rattle.apex_pictures.specs.Counters.{counters_text};
 ghost use Rattle.apex_pictures.specs.Counts.{HasCounts, counts_of};
 ghost use Rattle.apex_pictures.specs.Moments.{moment_of, running_in};
 ghost use Rattle.apex_pictures.specs.Stamps.{IsStamp};
-ghost use Rattle.apex_pictures.specs.Trace.{changes_text};
+ghost use Rattle.apex_pictures.specs.Trace.{changes_text, objects_text};
 ghost use Rattle.apex_pictures.specs.Tracks.{bare, cell_on, no_track, track_of};
 
 use crate::counts::Counts;
@@ -139,22 +138,25 @@ impl Tracks {
         put_processes(text, table, store, running, time, stamp, tracks)
     }
 
-    /// Brings the counts up to the objects of a kernel, and puts those that change.
+    /// Brings the counts up to the objects of a kernel, and puts those that change and the changes
+    /// on the tracks of the mutexes.
     pub(crate) fn put_counts<S: Store>(
         &mut self,
         text: &mut Vec<u8>,
         kernel: &Kernel<S>,
         time: u64,
+        stamp: &Stamp,
     ) -> Result<(), AllocError>
-        requires { HasCounts self.old.counts kernel.now.table }
+        requires stamp { IsStamp stamp.now time }
+        requires counts { HasCounts self.old.counts kernel.now.table }
         ensures text { OnOk result (text.new.items ≡ text.old.items
-            ++ counters_text kernel.now.table time self.old.counts
-            (counts_of kernel.now.table kernel.now.objects)) }
+            ++ objects_text kernel.now.table time stamp.now.ticks self.old.counts
+            (counts_of kernel.now.table kernel.now.machine.roster kernel.now.objects)) }
         ensures counts { OnOk result (self.new ≡ record self.old {
-          counts = counts_of kernel.now.table kernel.now.objects;
+          counts = counts_of kernel.now.table kernel.now.machine.roster kernel.now.objects;
         }) }
     {
-        self.counts.put_changes(text, kernel, time)
+        self.counts.put_changes(text, kernel, time, stamp)
     }
 
     /// The tracks of the processes.

@@ -1,0 +1,133 @@
+//! The kinds of objects that have a counter in a trace.
+ghost use Rattle.std.specs.Prelude.{◌≡◌, ◌≤◌};
+ghost use Rattle.apex_types.specs.declared.limits.TheConstants.{MOST_OBJECTS};
+ghost use Rattle.apex_pictures.specs.Counters.{back_text, front_text, object_name};
+ghost use Rattle.apex_pictures.specs.Counts.{content_of, count_of, displayed_on, object_count, raised_of, value_of};
+
+use crate::names::{blackboard_name, buffer_name, event_flag_name, semaphore_name};
+use apex_dispatch::{Kernel, Objects};
+use apex_store::Store;
+use apex_table::Table;
+use apex_types::{BlackboardId, BufferId, EventId, MOST_OBJECTS, SemaphoreId};
+
+/// A kind of objects that have a counter.
+#[derive(Clone, Copy)]
+pub(crate) enum Kind {
+    /// Its counter is the value.
+    Semaphore,
+    /// Its counter is the number of messages.
+    Buffer,
+    /// Its counter is 1 if the blackboard displays a message, and else 0.
+    Blackboard,
+    /// Its counter is 1 if the event flag is up, and else 0.
+    EventFlag,
+}
+
+/// The value of a semaphore; 0 if there is no such semaphore.
+#[inline(always)]
+fn value_of(objects: &Objects, semaphore: SemaphoreId) -> u64
+    ensures { result ≡ value_of objects.now semaphore }
+{
+    match objects.semaphores.get(semaphore.place()) {
+        Some(semaphore) => u64::from(semaphore.value()),
+        None => 0,
+    }
+}
+
+/// The number of messages in a buffer; 0 if there is no such buffer.
+#[inline(always)]
+fn content_of(objects: &Objects, buffer: BufferId) -> u64
+    ensures { result ≡ content_of objects.now buffer }
+{
+    match objects.buffers.get(buffer.place()) {
+        Some(buffer) => buffer.messages().len() as u64,
+        None => 0,
+    }
+}
+
+/// The number of messages that a blackboard displays: 1 or 0.
+#[inline(always)]
+fn displayed_on(objects: &Objects, blackboard: BlackboardId) -> u64
+    ensures { result ≡ displayed_on objects.now blackboard }
+{
+    match objects.blackboards.get(blackboard.place()) {
+        Some(blackboard) => u64::from(blackboard.message().is_some()),
+        None => 0,
+    }
+}
+
+/// 1 if an event flag is up, and else 0.
+#[inline(always)]
+fn raised_of(objects: &Objects, event: EventId) -> u64
+    ensures { result ≡ raised_of objects.now event }
+{
+    match objects.event_flags.get(event.place()) {
+        Some(event) => u64::from(event.is_up()),
+        None => 0,
+    }
+}
+
+impl Kind {
+    /// The number of its objects that a table has.
+    #[inline(always)]
+    pub(crate) fn object_count(self, table: &Table) -> usize
+        ensures value { result ≡ object_count table.now self }
+        ensures range { result ≤ MOST_OBJECTS }
+    {
+        match self {
+            Kind::Semaphore => table.semaphore_count(),
+            Kind::Buffer => table.buffer_count(),
+            Kind::Blackboard => table.blackboard_count(),
+            Kind::EventFlag => table.event_flag_count(),
+        }
+    }
+
+    /// The count of its object at a place; 0 if there is no such object.
+    #[inline(always)]
+    pub(crate) fn count_of(self, objects: &Objects, place: u8) -> u64
+        ensures { result ≡ count_of objects.now self place }
+    {
+        match self {
+            Kind::Semaphore => value_of(objects, SemaphoreId::at(place)),
+            Kind::Buffer => content_of(objects, BufferId::at(place)),
+            Kind::Blackboard => displayed_on(objects, BlackboardId::at(place)),
+            Kind::EventFlag => raised_of(objects, EventId::at(place)),
+        }
+    }
+
+    /// The name of its object at a place; no byte if there is no such object.
+    pub(crate) fn object_name(self, table: &Table, place: u8) -> &[u8]
+        ensures { result.now ≡ object_name table.now self place }
+    {
+        match self {
+            Kind::Semaphore => semaphore_name(table, SemaphoreId::at(place)),
+            Kind::Buffer => buffer_name(table, BufferId::at(place)),
+            Kind::Blackboard => blackboard_name(table, BlackboardId::at(place)),
+            Kind::EventFlag => event_flag_name(table, EventId::at(place)),
+        }
+    }
+
+    /// What comes before the name in a counter.
+    pub(crate) fn front(self) -> &'static str
+        ensures { result.now ≡ front_text self }
+    {
+        match self {
+            Kind::Semaphore => ",\"name\":\"semaphore ",
+            Kind::Buffer => ",\"name\":\"buffer ",
+            Kind::Blackboard => ",\"name\":\"blackboard ",
+            Kind::EventFlag => ",\"name\":\"event ",
+        }
+    }
+
+    /// What comes behind the name in a counter.
+    pub(crate) fn back(self) -> &'static str
+        ensures { result.now ≡ back_text self }
+    {
+        match self {
+            Kind::Semaphore => "\",\"args\":{\"value\":",
+            Kind::Buffer => "\",\"args\":{\"messages\":",
+            Kind::Blackboard => "\",\"args\":{\"messages\":",
+            Kind::EventFlag => "\",\"args\":{\"up\":",
+        }
+    }
+}

@@ -1,0 +1,174 @@
+//! The tracks of the mutexes in a trace: a slice lasts as long as a process owns the mutex.
+ghost use Rattle.std.specs.Prelude.{◌≡◌, ◌+◌, ◌≤◌, ◌++◌, [], is_some, length, slice_index_or, None, OnOk};
+ghost use Rattle.arrayvec.specs.ArrayVec.{array_vec_len};
+ghost use Rattle.apex_machine.specs.text.Listing.{texts_of};
+ghost use Rattle.apex_pictures.specs.Counts.{owners_in};
+ghost use Rattle.apex_pictures.specs.Stamps.{IsStamp, Stamps};
+ghost use Rattle.apex_pictures.specs.Trace as trace;
+ghost use Rattle.apex_pictures.specs.declared.pieces.TheConstants.{PIECE_ROOM};
+ghost use Rattle.apex_pictures.specs.declared.trace.TheConstants.{BEGIN, NAME};
+
+use crate::names::mutex_name;
+use crate::pieces::{Piece, add_text};
+use crate::stamps::Stamp;
+use crate::texts::{Part, put_all};
+use crate::trace::{BEGIN, NAME, Spot, add_begin, add_ended, is_same_process, mutex_spot};
+use crate::words::{id_part, name_of};
+use apex_json::add_json;
+use apex_store::Store;
+use apex_table::Table;
+use apex_types::{MutexId, ProcessId};
+use std::alloc::AllocError;
+
+/// Puts the name of a mutex's track, and its place among those of the mutexes.
+fn put_mutex_name(text: &mut Vec<u8>, table: &Table, mutex: MutexId) -> Result<(), AllocError>
+    ensures { OnOk result (text.new.items ≡ text.old.items
+        ++ trace.mutex_name_text table.now mutex) }
+{
+    put_all(
+        text,
+        &[
+            Part::Plain(",\n{\"ph\":\"M\",\"pid\":3,\"tid\":"),
+            id_part(mutex),
+            Part::Plain(",\"name\":\"thread_name\",\"args\":{\"name\":\"mutex "),
+            Part::Json(mutex_name(table, mutex)),
+            Part::Plain("\"}},\n{\"ph\":\"M\",\"pid\":3,\"tid\":"),
+            id_part(mutex),
+            Part::Plain(",\"name\":\"thread_sort_index\",\"args\":{\"sort_index\":"),
+            id_part(mutex),
+            Part::Plain("}}"),
+        ],
+    )
+}
+
+/// Puts the names of the tracks of all mutexes.
+pub(crate) fn put_mutex_names(text: &mut Vec<u8>, table: &Table) -> Result<(), AllocError>
+    ensures { OnOk result (text.new.items ≡ text.old.items
+        ++ texts_of (trace.mutex_name_text table.now) (length table.now.mutexes)) }
+{
+    for place in 0..table.mutex_count() {
+        put_mutex_name(text, table, MutexId::at(place as u8))?;
+    }
+    Ok(())
+}
+
+/// Adds the slice of a mutex's owner, if it has one.
+#[inline(always)]
+#[tactic(auto, using(std::proofs::Common::append_assoc))]
+fn add_owner(
+    piece: &mut Piece,
+    table: &Table,
+    spot: Spot,
+    stamp: &Stamp,
+    owner: &Option<ProcessId>,
+)
+    requires stamps { Stamps stamp.now spot }
+    requires room { array_vec_len piece.old + BEGIN + NAME ≤ PIECE_ROOM }
+    ensures { piece.new.items ≡ piece.old.items
+        ++ trace.owned_text table.now spot stamp.now.ticks owner.now }
+{
+    if let Some(process) = owner {
+        add_begin(piece, spot, stamp);
+        add_json(piece, name_of(table, *process));
+        add_text(piece, *b"\"}");
+    }
+}
+
+/// Puts the end of the slice on the track of a mutex, and the beginning of the next one.
+// Not inlined, as on most tracks an entry changes nothing.
+#[inline(never)]
+fn put_handover(
+    text: &mut Vec<u8>,
+    table: &Table,
+    spot: Spot,
+    stamp: &Stamp,
+    before: &Option<ProcessId>,
+    after: &Option<ProcessId>,
+) -> Result<(), AllocError>
+    requires { Stamps stamp.now spot }
+    ensures { OnOk result (text.new.items ≡ text.old.items
+        ++ (trace.ended (is_some before.now) spot
+        ++ trace.owned_text table.now spot stamp.now.ticks after.now)) }
+{
+    let mut piece = Piece::new();
+    add_ended(&mut piece, spot, stamp, before.is_some());
+    add_owner(&mut piece, table, spot, stamp, after);
+    text.extend_from_slice(piece.as_slice())
+}
+
+/// Puts the changes on the track of a mutex.
+#[inline(always)]
+fn put_mutex(
+    text: &mut Vec<u8>,
+    table: &Table,
+    mutex: MutexId,
+    time: u64,
+    stamp: &Stamp,
+    before: &Option<ProcessId>,
+    after: &Option<ProcessId>,
+) -> Result<(), AllocError>
+    requires { IsStamp stamp.now time }
+    ensures { OnOk result (text.new.items ≡ text.old.items ++ trace.mutex_text table.now
+        (trace.mutex_spot mutex time) stamp.now.ticks before.now after.now) }
+{
+    if is_same_process(before, after) {
+        return Ok(());
+    }
+    put_handover(text, table, mutex_spot(mutex, time), stamp, before, after)
+}
+
+/// The owner at a place; none if there is no such mutex.
+#[inline(always)]
+fn owner_at(owners: &[Option<ProcessId>], place: usize) -> Option<ProcessId>
+    ensures { result ≡ slice_index_or owners.now place None }
+{
+    match owners.get(place) {
+        Some(owner) => *owner,
+        None => None,
+    }
+}
+
+/// Brings the owners up to the processes of a store, and puts the changes on the tracks of the
+/// mutexes.
+pub(crate) fn put_mutexes<S: Store>(
+    text: &mut Vec<u8>,
+    table: &Table,
+    store: &S,
+    time: u64,
+    stamp: &Stamp,
+    owners: &mut [Option<ProcessId>],
+) -> Result<(), AllocError>
+    requires stamp { IsStamp stamp.now time }
+    requires many { length owners.old ≡ length table.now.mutexes }
+    ensures text { OnOk result (text.new.items ≡ text.old.items
+        ++ trace.mutexes_text table.now time stamp.now.ticks owners.old
+        (owners_in table.now (S.roster store.now))) }
+    ensures owners { OnOk result (owners.new ≡ owners_in table.now (S.roster store.now)) }
+{
+    for place in 0..table.mutex_count() {
+        let mutex = MutexId::at(place as u8);
+        let (before, after) = (owner_at(owners, place), store.owner(mutex));
+        put_mutex(text, table, mutex, time, stamp, &before, &after)?;
+        owners[place] = after;
+    }
+    Ok(())
+}
+
+/// Puts the ends of the slices of all mutexes.
+pub(crate) fn put_mutex_ends(
+    text: &mut Vec<u8>,
+    table: &Table,
+    time: u64,
+    stamp: &Stamp,
+    last: &[Option<ProcessId>],
+) -> Result<(), AllocError>
+    requires { IsStamp stamp.now time }
+    ensures { OnOk result (text.new.items ≡ text.old.items
+        ++ trace.mutexes_text table.now time stamp.now.ticks last.now []) }
+{
+    for place in 0..table.mutex_count() {
+        let before = owner_at(last, place);
+        put_mutex(text, table, MutexId::at(place as u8), time, stamp, &before, &None)?;
+    }
+    Ok(())
+}
