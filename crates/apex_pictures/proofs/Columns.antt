@@ -1,15 +1,17 @@
 -- Each column says what holds after its entry.
-use Rattle.std.proofs.Common.{◌≡◌, ◌∙◌, ℕ, zero, suc, List, [], ◌∷◌, ◌++◌, None, Some, refl, sym, ap, arith, length, take, add-one, append-nil, append_assoc}
+use Rattle.std.proofs.Common.{◌≡◌, ◌∙◌, ◌<◌, ℕ, zero, suc, List, [], ◌∷◌, ◌++◌, None, Some, refl, sym, ap, arith, length, take, add-one, append-nil, append_assoc}
 use Rattle.std.specs.Prelude.{slice_get, slice_index_or}
 use Rattle.apex_machine.specs.Machine.{Machine, objects_after, opening, run}
+use Rattle.apex_machine.specs.processes.Owners.{owner}
 use Rattle.apex_machine.specs.processes.Roster.{Roster, opening_roster}
 use Rattle.apex_machine.specs.processes.Running.{chosen}
 use Rattle.apex_machine.specs.table.Table.{Table}
-use Rattle.apex_pictures.specs.Counts.{Counts, content_of, counts_after, counts_of, value_of}
+use Rattle.apex_pictures.specs.Counts.{Counts, counts_after, counts_of, count_of}
 use Rattle.apex_pictures.specs.Instants.{instant_after}
 use Rattle.apex_pictures.specs.Laws.{ArePictures, CountsAll, Says}
 use Rattle.apex_pictures.specs.Moments.{Column, Shown, cell_of, column_of, columns_from, moment_of, no_cell, picture}
 use Rattle.apex_pictures.specs.Terms.{Cell, Entry}
+use Rattle.apex_pictures.specs.declared.kinds.Kind.TheVariants.{Semaphore, Buffer, Blackboard, EventFlag}
 use Rattle.apex_pictures.proofs.Pictured.{pictured_opening, pictured_run}
 use Rattle.apex_pictures.proofs.Places.{found_at, place_of}
 
@@ -19,8 +21,9 @@ record IsColumn (table : Table) (done entries : List Entry) (rosters : List Rost
   instant : column.instant ≡ instant_after (done ++ take (suc k) entries)
   roster : Roster
   after : slice_get rosters k ≡ Some roster
-  shown : column.after ≡ moment_of roster (counts_after table (done ++ take (suc k) entries))
-  counts : column.before.counts ≡ counts_after table (done ++ take k entries)
+  shown : column.after ≡ moment_of roster (counts_after table roster (done ++ take (suc k) entries))
+  before : Roster
+  counts : column.before.counts ≡ counts_after table before (done ++ take k entries)
 
 column_at : (table : Table) (done : List Entry) (before : Roster) (entries : List Entry) (rosters : List Roster)
     (k : ℕ) (column : Column) → slice_get (columns_from table done before entries rosters) k ≡ Some column
@@ -35,8 +38,9 @@ column_at table done before (entry ∷ entries) (roster ∷ rosters) zero column
       roster = roster;
       after = refl;
       shown = ap (λ (c : Column). c.after) (sym same);
+      before = before;
       counts = ap (λ (c : Column). c.before.counts) (sym same)
-          ∙ ap (counts_after table) (sym (append-nil done));
+          ∙ ap (counts_after table before) (sym (append-nil done));
     }
 column_at table done before (entry ∷ entries) (roster ∷ rosters) (suc k) column is =
     let rest = column_at table (done ++ entry ∷ []) roster entries rosters k column is in
@@ -45,23 +49,35 @@ column_at table done before (entry ∷ entries) (roster ∷ rosters) (suc k) col
       instant = rest.instant ∙ ap instant_after (append_assoc done (entry ∷ []) (take (suc k) entries));
       roster = rest.roster;
       after = rest.after;
-      shown = rest.shown ∙ ap (λ (l : List Entry). moment_of rest.roster (counts_after table l))
+      shown = rest.shown ∙ ap (λ (l : List Entry). moment_of rest.roster (counts_after table rest.roster l))
           (append_assoc done (entry ∷ []) (take (suc k) entries));
-      counts = rest.counts ∙ ap (counts_after table) (append_assoc done (entry ∷ []) (take k entries));
+      before = rest.before;
+      counts = rest.counts ∙ ap (counts_after table rest.before) (append_assoc done (entry ∷ []) (take k entries));
     }
 
 -- the counts after these entries are those of all objects
-counts_all : (table : Table) (done : List Entry) (counts : Counts) → counts ≡ counts_after table done
+counts_all : (table : Table) (roster : Roster) (done : List Entry) (counts : Counts) → counts ≡ counts_after table roster done
     → CountsAll table done counts
 unfolding counts_of
-counts_all table done counts is =
+counts_all table roster done counts is =
     let objects = objects_after table done in
     record {
       values = λ s within. ap (λ (c : Counts). slice_get c.values s) is
-          ∙ found_at (value_of objects) (length table.semaphores) s within;
+          ∙ found_at (count_of objects Semaphore) (length table.semaphores) s within;
       contents = λ b within. ap (λ (c : Counts). slice_get c.contents b) is
-          ∙ found_at (content_of objects) (length table.buffers) b within;
+          ∙ found_at (count_of objects Buffer) (length table.buffers) b within;
+      displays = λ b within. ap (λ (c : Counts). slice_get c.displays b) is
+          ∙ found_at (count_of objects Blackboard) (length table.blackboards) b within;
+      flags = λ e within. ap (λ (c : Counts). slice_get c.flags e) is
+          ∙ found_at (count_of objects EventFlag) (length table.event_flags) e within;
     }
+
+-- the owners in these counts are those of the roster
+owners_all : (table : Table) (roster : Roster) (done : List Entry) (counts : Counts) → counts ≡ counts_after table roster done
+    → (m : ℕ) → m < length table.mutexes → slice_get counts.owners m ≡ Some (owner roster m)
+unfolding counts_of
+owners_all table roster done counts is m within =
+    ap (λ (c : Counts). slice_get c.owners m) is ∙ found_at (owner roster) (length table.mutexes) m within
 
 column_says : (table : Table) (machine : Machine) (k : ℕ) (column : Column)
     → slice_get (picture table machine) k ≡ Some column → Says table machine k column
@@ -81,8 +97,9 @@ column_says table machine k column is =
           ∙ ap (λ (c : Cell). c.owned) (place_of (cell_of roster) (length roster.records) p no_cell within);
       running = λ core within. ap (λ (s : Shown). slice_index_or s.running core None) found.shown
           ∙ place_of (chosen roster) 8 core None within;
-      counts_after = rw (add-one k) (counts_all table _ _ (ap (λ (s : Shown). s.counts) found.shown));
-      counts_before = counts_all table _ _ found.counts;
+      owners = λ m within. owners_all table roster _ _ (ap (λ (s : Shown). s.counts) found.shown) m within;
+      counts_after = rw (add-one k) (counts_all table roster _ _ (ap (λ (s : Shown). s.counts) found.shown));
+      counts_before = counts_all table found.before _ _ found.counts;
     }
 
 columns_many : (table : Table) (done : List Entry) (before : Roster) (entries : List Entry) (rosters : List Roster)

@@ -5,7 +5,7 @@ use Rattle.std.proofs.Math.Seq.{get_or-append_seam, set-append_seam}
 use Rattle.std.proofs.lemmas.Bool.{cases_lt}
 use Rattle.std.proofs.lemmas.List.{drop_more, get_or_append_left}
 use Rattle.std.proofs.lemmas.Option.{slice_get-get_or}
-use Rattle.std.specs.Prelude.{Some, option_map, slice_get, unwrap_or}
+use Rattle.std.specs.Prelude.{Some, slice_get}
 use Rattle.apex_machine.specs.text.Listing.{texts_of}
 use Rattle.apex_pictures.specs.Places.{of_places}
 
@@ -25,9 +25,9 @@ place_of f (suc n) i d within = elim (cases_lt i n) [
       subst (λ (k : ℕ). get_or (of_places f (suc n)) k d ≡ f k) (sym last) (subst (λ (k : ℕ). get_or (of_places f (suc n)) k d ≡ f n) (length_of f n) here)
 ]
 
-pub found_at : (f : ℕ → ℕ) (n i : ℕ) → i < n → slice_get (of_places f n) i ≡ Some (f i)
+pub found_at : {A : Type 0} → (f : ℕ → A) (n i : ℕ) → i < n → slice_get (of_places f n) i ≡ Some (f i)
 found_at f n i within =
-    slice_get-get_or (of_places f n) i 0 (rw (length_of f n) within) ∙ ap Some (place_of f n i 0 within)
+    slice_get-get_or (of_places f n) i (f i) (rw (length_of f n) within) ∙ ap Some (place_of f n i (f i) within)
 
 -- nothing follows a text
 pub text_alone : {A : Type 0} → (text : List A) → text ++ [] ≡ text
@@ -46,13 +46,6 @@ pub place_next : {A : Type 0} → (f : ℕ → A) (n : ℕ) (before after : List
     → after ≡ before ++ next ∷ [] → next ≡ f n → after ≡ of_places f (n + 1)
 place_next f n before after next so_far put is =
     put ∙ ap (λ l. l ++ next ∷ []) so_far ∙ ap (λ x. of_places f n ++ x ∷ []) is ∙ rw (add-one n) refl
-
--- what is counted of the object at a place; an absent one counts 0
-pub counted_at : {X : Type 0} → (f : X → ℕ) (objects : List X) (i : ℕ) (absent : X) → f absent ≡ 0
-    → unwrap_or (option_map f (slice_get objects i)) 0 ≡ f (get_or objects i absent)
-counted_at f [] i absent none = sym none
-counted_at f (x ∷ objects) zero absent none = refl
-counted_at f (x ∷ objects) (suc i) absent none = counted_at f objects i absent none
 
 -- the first n places have their values, and what follows begins at place n
 kept_from : {A : Type 0} → (f : ℕ → A) (n : ℕ) (old before : List A) (d : A) → n < length old → before ≡ of_places f n ++ drop n old

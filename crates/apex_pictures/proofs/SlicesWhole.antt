@@ -1,8 +1,8 @@
 -- The texts of a slice's end and of its beginning, put together.
-use Rattle.std.proofs.Common.{◌≡◌, ◌∙◌, ℕ, List, ◌++◌, ap, sym, append_assoc, inl, inr, codes, decimal, arith}
+use Rattle.std.proofs.Common.{◌≡◌, ◌∙◌, ℕ, List, ◌++◌, ap, sym, append_assoc, codes, decimal, arith}
 use Rattle.std.proofs.lemmas.Fmt.{decimal_digit}
 use Rattle.apex_pictures.specs.Instants.{time_text}
-use Rattle.apex_pictures.specs.Stamps.{IsGroup, begin_back, begin_front, end_back, end_front}
+use Rattle.apex_pictures.specs.Stamps.{begin_back, begin_front, end_back, end_front}
 use Rattle.apex_pictures.specs.Trace.{begin_text, end_text}
 use Rattle.apex_pictures.specs.declared.trace.Spot.{Spot}
 
@@ -11,6 +11,9 @@ one = decimal_digit 1 (omega arith)
 
 two : decimal 2 ≡ codes "2"
 two = decimal_digit 2 (omega arith)
+
+three : decimal 3 ≡ codes "3"
+three = decimal_digit 3 (omega arith)
 
 -- the digit of a group in a text
 in_front : (front back digit : List ℕ) (group : ℕ) → decimal group ≡ digit
@@ -21,21 +24,25 @@ pub end_front_first : (group : ℕ) → group ≡ 1 → codes ",\n{\"ph\":\"E\",
 end_front_first group is =
     in_front (codes ",\n{\"ph\":\"E\",\"pid\":") (codes ",\"tid\":") (codes "1") group (ap decimal is ∙ one)
 
-pub end_front_other : (group : ℕ) → IsGroup group → (group ≡ 1 → ⊥)
-    → codes ",\n{\"ph\":\"E\",\"pid\":2,\"tid\":" ≡ end_front group
-end_front_other group (inl first) other = absurd (other first)
-end_front_other group (inr is) other =
+pub end_front_second : (group : ℕ) → group ≡ 2 → codes ",\n{\"ph\":\"E\",\"pid\":2,\"tid\":" ≡ end_front group
+end_front_second group is =
     in_front (codes ",\n{\"ph\":\"E\",\"pid\":") (codes ",\"tid\":") (codes "2") group (ap decimal is ∙ two)
+
+pub end_front_third : (group : ℕ) → group ≡ 3 → codes ",\n{\"ph\":\"E\",\"pid\":3,\"tid\":" ≡ end_front group
+end_front_third group is =
+    in_front (codes ",\n{\"ph\":\"E\",\"pid\":") (codes ",\"tid\":") (codes "3") group (ap decimal is ∙ three)
 
 pub begin_front_first : (group : ℕ) → group ≡ 1 → codes ",\n{\"ph\":\"B\",\"pid\":1,\"tid\":" ≡ begin_front group
 begin_front_first group is =
     in_front (codes ",\n{\"ph\":\"B\",\"pid\":") (codes ",\"tid\":") (codes "1") group (ap decimal is ∙ one)
 
-pub begin_front_other : (group : ℕ) → IsGroup group → (group ≡ 1 → ⊥)
-    → codes ",\n{\"ph\":\"B\",\"pid\":2,\"tid\":" ≡ begin_front group
-begin_front_other group (inl first) other = absurd (other first)
-begin_front_other group (inr is) other =
+pub begin_front_second : (group : ℕ) → group ≡ 2 → codes ",\n{\"ph\":\"B\",\"pid\":2,\"tid\":" ≡ begin_front group
+begin_front_second group is =
     in_front (codes ",\n{\"ph\":\"B\",\"pid\":") (codes ",\"tid\":") (codes "2") group (ap decimal is ∙ two)
+
+pub begin_front_third : (group : ℕ) → group ≡ 3 → codes ",\n{\"ph\":\"B\",\"pid\":3,\"tid\":" ≡ begin_front group
+begin_front_third group is =
+    in_front (codes ",\n{\"ph\":\"B\",\"pid\":") (codes ",\"tid\":") (codes "3") group (ap decimal is ∙ three)
 
 -- three texts behind another one
 behind : (text a b c after first second : List ℕ) → first ≡ text ++ a → second ≡ first ++ b → after ≡ second ++ c

@@ -7,7 +7,7 @@ use Rattle.apex_machine.specs.processes.Roster.{Roster}
 use Rattle.apex_machine.specs.processes.Running.{process_state}
 use Rattle.apex_machine.specs.table.Table.{Table}
 use Rattle.apex_types.specs.declared.limits.TheConstants.{MOST_CORES}
-use Rattle.apex_pictures.specs.Counters.{counters_text}
+use Rattle.apex_pictures.specs.Trace.{objects_text}
 use Rattle.apex_pictures.specs.Counts.{Counts, HasCounts}
 use Rattle.apex_pictures.specs.Moments.{Shown, cell_of, moment_of, no_cell, none_shown, running_in}
 use Rattle.apex_pictures.specs.Places.{of_places}
@@ -91,14 +91,15 @@ changes_same table time now before after =
 pub column_same : (table : Table) (time : ℕ) (before : Shown) (entry : Entry) (after : Shown)
     → trace.column_text table time (bare before) entry (bare after) ≡ trace.column_text table time before entry after
 column_same table time before entry after =
-    ap (λ l. l ++ counters_text table time before.counts after.counts
+    ap (λ l. l ++ objects_text table time entry.now before.counts after.counts
     ++ flat_map (trace.marked_text time entry.now) entry.notices)
     (changes_same table time entry.now before after)
 
 -- what comes after the columns
 pub foot_same : (table : Table) (time now : ℕ) (last : Shown)
     → trace.foot_text table time now (bare last) ≡ trace.foot_text table time now last
-foot_same table time now last = ap (λ l. l ++ codes "\n]}\n") (changes_same table time now last none_shown)
+foot_same table time now last =
+    ap (λ l. l ++ trace.mutexes_text table time now last.counts.owners [] ++ codes "\n]}\n") (changes_same table time now last none_shown)
 
 -- the tracks of the moment follow it
 pub follows : (style : Style) (tracks shown : Shown) → tracks ≡ bare shown → Follows style tracks shown
@@ -119,15 +120,15 @@ follow_fits (Svg frame) tracks shown table follows counts cores = tt
 follow_fits Trace tracks shown table follows counts cores =
     (subst (λ (s : Shown). HasCounts s.counts table) (sym follows) counts, ap (λ (s : Shown). length s.running) follows ∙ cores)
 
--- the changes, the counters and the marks of a column, one behind the other
+-- the changes, those of the objects and the marks of a column, one behind the other
 pub column_whole : (table : Table) (time : ℕ) (before : Shown) (entry : Entry) (after : Shown) (text one two whole : List ℕ)
     → one ≡ text ++ trace.changes_text table time entry.now before after
-    → two ≡ one ++ counters_text table time before.counts after.counts
+    → two ≡ one ++ objects_text table time entry.now before.counts after.counts
     → whole ≡ two ++ flat_map (trace.marked_text time entry.now) entry.notices
     → whole ≡ text ++ trace.column_text table time before entry after
-column_whole table time before entry after text one two whole changes counters marks =
+column_whole table time before entry after text one two whole changes objects marks =
     let changed = trace.changes_text table time entry.now before after in
-    let counted = counters_text table time before.counts after.counts in
+    let counted = objects_text table time entry.now before.counts after.counts in
     let marked = flat_map (trace.marked_text time entry.now) entry.notices in
-    marks ∙ ap (λ l. l ++ marked) (counters ∙ ap (λ l. l ++ counted) changes)
+    marks ∙ ap (λ l. l ++ marked) (objects ∙ ap (λ l. l ++ counted) changes)
     ∙ ap (λ l. l ++ marked) (append_assoc text changed counted) ∙ append_assoc text (changed ++ counted) marked

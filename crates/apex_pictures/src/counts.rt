@@ -65,20 +65,26 @@ fn owners_in<S: Store>(table: &Table, store: &S) -> ArrayVec<Option<ProcessId>, 
     owners
 }
 
-/// The counts of a kernel's objects, and the owners of its mutexes.
+/// The counts of these objects, and the owners of the mutexes.
 #[tactic(auto, unfolding(crate::specs::Counts::counts_of))]
-pub(crate) fn counts_of<S: Store>(kernel: &Kernel<S>) -> Counts
-    ensures { result ≡ counts_of kernel.now.table kernel.now.machine.roster kernel.now.objects }
+fn counts_from<S: Store>(table: &Table, objects: &Objects, store: &S) -> Counts
+    ensures { result ≡ counts_of table.now (S.roster store.now) objects.now }
 {
-    kernel.holds();
-    let (table, objects) = (kernel.table(), kernel.situation().objects());
     Counts {
         values: counts_in(table, objects, Kind::Semaphore),
         contents: counts_in(table, objects, Kind::Buffer),
         displays: counts_in(table, objects, Kind::Blackboard),
         flags: counts_in(table, objects, Kind::EventFlag),
-        owners: owners_in(table, kernel.store()),
+        owners: owners_in(table, store),
     }
+}
+
+/// The counts of a kernel's objects, and the owners of its mutexes.
+pub(crate) fn counts_of<S: Store>(kernel: &Kernel<S>) -> Counts
+    ensures { result ≡ counts_of kernel.now.table kernel.now.machine.roster kernel.now.objects }
+{
+    kernel.holds();
+    counts_from(kernel.table(), kernel.situation().objects(), kernel.store())
 }
 
 /// The count at a place.
@@ -90,30 +96,58 @@ pub(crate) fn count_at(counts: &[u64], place: usize) -> Option<u64>
 }
 
 impl Counts {
-    /// Brings the counts up to the objects of a kernel, and puts those that change and the changes
-    /// on the tracks of the mutexes.
+    /// Brings the counts up to these objects and the owners of the mutexes, and puts the counters
+    /// and the changes on the tracks of the mutexes.
     pub(crate) fn put_changes<S: Store>(
         &mut self,
         text: &mut Vec<u8>,
-        kernel: &Kernel<S>,
+        table: &Table,
+        objects: &Objects,
+        store: &S,
         time: u64,
         stamp: &Stamp,
     ) -> Result<(), AllocError>
         requires stamp { IsStamp stamp.now time }
-        requires counts { HasCounts self.old kernel.now.table }
+        requires counts { HasCounts self.old table.now }
         ensures text { OnOk result (text.new.items ≡ text.old.items
-            ++ objects_text kernel.now.table time stamp.now.ticks self.old
-            (counts_of kernel.now.table kernel.now.machine.roster kernel.now.objects)) }
+            ++ objects_text table.now time stamp.now.ticks self.old
+            (counts_of table.now (S.roster store.now) objects.now)) }
         ensures counts { OnOk result (self.new
-            ≡ counts_of kernel.now.table kernel.now.machine.roster kernel.now.objects) }
+            ≡ counts_of table.now (S.roster store.now) objects.now) }
     {
-        kernel.holds();
-        let (table, objects) = (kernel.table(), kernel.situation().objects());
-        put_kind(text, table, objects, time, Kind::Semaphore, self.values.as_mut_slice())?;
-        put_kind(text, table, objects, time, Kind::Buffer, self.contents.as_mut_slice())?;
-        put_kind(text, table, objects, time, Kind::Blackboard, self.displays.as_mut_slice())?;
-        put_kind(text, table, objects, time, Kind::EventFlag, self.flags.as_mut_slice())?;
-        put_mutexes(text, table, kernel.store(), time, stamp, self.owners.as_mut_slice())
+        put_kind(
+            text,
+            table,
+            objects,
+            time,
+            Kind::Semaphore,
+            self.values.as_mut_slice(),
+        )?;
+        put_kind(
+            text,
+            table,
+            objects,
+            time,
+            Kind::Buffer,
+            self.contents.as_mut_slice(),
+        )?;
+        put_kind(
+            text,
+            table,
+            objects,
+            time,
+            Kind::Blackboard,
+            self.displays.as_mut_slice(),
+        )?;
+        put_kind(
+            text,
+            table,
+            objects,
+            time,
+            Kind::EventFlag,
+            self.flags.as_mut_slice(),
+        )?;
+        put_mutexes(text, table, store, time, stamp, self.owners.as_mut_slice())
     }
 
     /// The value of each semaphore.

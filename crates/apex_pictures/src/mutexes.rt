@@ -55,13 +55,7 @@ pub(crate) fn put_mutex_names(text: &mut Vec<u8>, table: &Table) -> Result<(), A
 /// Adds the slice of a mutex's owner, if it has one.
 #[inline(always)]
 #[tactic(auto, using(std::proofs::Common::append_assoc))]
-fn add_owner(
-    piece: &mut Piece,
-    table: &Table,
-    spot: Spot,
-    stamp: &Stamp,
-    owner: &Option<ProcessId>,
-)
+fn add_owner(piece: &mut Piece, table: &Table, spot: Spot, stamp: &Stamp, owner: &Option<ProcessId>)
     requires stamps { Stamps stamp.now spot }
     requires room { array_vec_len piece.old + BEGIN + NAME ≤ PIECE_ROOM }
     ensures { piece.new.items ≡ piece.old.items
@@ -168,7 +162,15 @@ pub(crate) fn put_mutex_ends(
 {
     for place in 0..table.mutex_count() {
         let before = owner_at(last, place);
-        put_mutex(text, table, MutexId::at(place as u8), time, stamp, &before, &None)?;
+        put_mutex(
+            text,
+            table,
+            MutexId::at(place as u8),
+            time,
+            stamp,
+            &before,
+            &None,
+        )?;
     }
     Ok(())
 }

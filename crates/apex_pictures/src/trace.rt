@@ -598,8 +598,10 @@ pub(crate) fn put_column<S: Store>(
     kernel.holds();
     let table = kernel.table();
     let stamp = Stamp::new(time, entry.now);
-    shown.put_changes(text, table, kernel.store(), time, &stamp)?;
-    shown.put_counts(text, kernel, time, &stamp)?;
+    let objects = kernel.situation().objects();
+    let store = kernel.store();
+    shown.put_changes(text, table, store, time, &stamp)?;
+    shown.put_counts(text, table, objects, store, time, &stamp)?;
     put_marks(text, time, &stamp, entry.notices)
 }
 

@@ -11,7 +11,7 @@ use crate::counts::Counts;
 use crate::moments::{CORES, running_of, state_of};
 use crate::stamps::Stamp;
 use crate::trace::{put_processes, put_runs};
-use apex_dispatch::Kernel;
+use apex_dispatch::Objects;
 use apex_machine::Wait;
 use apex_store::Store;
 use apex_table::Table;
@@ -138,25 +138,28 @@ impl Tracks {
         put_processes(text, table, store, running, time, stamp, tracks)
     }
 
-    /// Brings the counts up to the objects of a kernel, and puts those that change and the changes
-    /// on the tracks of the mutexes.
+    /// Brings the counts up to these objects and the owners of the mutexes, and puts the counters
+    /// and the changes on the tracks of the mutexes.
     pub(crate) fn put_counts<S: Store>(
         &mut self,
         text: &mut Vec<u8>,
-        kernel: &Kernel<S>,
+        table: &Table,
+        objects: &Objects,
+        store: &S,
         time: u64,
         stamp: &Stamp,
     ) -> Result<(), AllocError>
         requires stamp { IsStamp stamp.now time }
-        requires counts { HasCounts self.old.counts kernel.now.table }
+        requires counts { HasCounts self.old.counts table.now }
         ensures text { OnOk result (text.new.items ≡ text.old.items
-            ++ objects_text kernel.now.table time stamp.now.ticks self.old.counts
-            (counts_of kernel.now.table kernel.now.machine.roster kernel.now.objects)) }
+            ++ objects_text table.now time stamp.now.ticks self.old.counts
+            (counts_of table.now (S.roster store.now) objects.now)) }
         ensures counts { OnOk result (self.new ≡ record self.old {
-          counts = counts_of kernel.now.table kernel.now.machine.roster kernel.now.objects;
+          counts = counts_of table.now (S.roster store.now) objects.now;
         }) }
     {
-        self.counts.put_changes(text, kernel, time, stamp)
+        self.counts
+            .put_changes(text, table, objects, store, time, stamp)
     }
 
     /// The tracks of the processes.

@@ -83,7 +83,7 @@ put_column-requires-clause-fits g c =
     let machine = c.args.kernel.now.machine in
     let kept : c.accept.new.self.table ≡ table = ap (λ (k : KernelState _). k.table) c.in-Ok.ensures.done in
     rw kept (follow_fits c.args.style.now c.args.shown.now (moment_in table machine) table c.requires.shown
-    (counted_all table (objects_after table machine.history)) (length_of (chosen machine.roster) MOST_CORES))
+    (counted_all table machine.roster (objects_after table machine.history)) (length_of (chosen machine.roster) MOST_CORES))
 
 pub put_column-requires-clause-printable : goal.put_column-requires-clause-printable
 put_column-requires-clause-printable g c =

@@ -10,7 +10,7 @@ use Rattle.apex_pictures.proofs.drawing.moment_in.Goals as goal
 pub returns : goal.returns
 returns g c =
     let kernel = c.args.kernel.now in
-    let counts : c.counts_of.result ≡ counts_after kernel.table kernel.machine.history =
-    c.counts_of.ensures ∙ ap (λ (o : Objects). counts_of kernel.table o) (ap (λ (k : KernelState _). k.objects) c.holds.ensures.values) in
+    let counts : c.counts_of.result ≡ counts_after kernel.table kernel.machine.roster kernel.machine.history =
+    c.counts_of.ensures ∙ ap (λ (o : Objects). counts_of kernel.table kernel.machine.roster o) (ap (λ (k : KernelState _). k.objects) c.holds.ensures.values) in
     c.moment_of.ensures ∙ ap (λ (r : Roster). moment_of r c.counts_of.result) c.store.ensures.roster
     ∙ ap (moment_of kernel.machine.roster) counts

@@ -1,42 +1,55 @@
 -- The counts are those of the objects.
-use Rattle.std.proofs.Common.{◌≡◌, ◌∙◌, ℕ, List, ap, length, sym}
+use Rattle.std.proofs.Common.{◌≡◌, ◌∙◌, ℕ, List, Option, ap, length, sym}
 use Rattle.std.proofs.lemmas.Result.{on_ok_weaker}
 use Rattle.arrayvec.proofs.ArrayVecLemmas.{items-with_items}
 use Rattle.arrayvec.specs.ArrayVec.{with_items}
-use Rattle.apex_pictures.specs.Places.{of_places}
-use Rattle.apex_pictures.specs.Counts.{Counts, content_of, counts_of, value_of}
-use Rattle.apex_pictures.proofs.Counted.{counters_whole}
+use Rattle.apex_machine.specs.processes.Owners.{owner}
+use Rattle.apex_pictures.specs.Counts.{Counts, counts_in, counts_of, object_count}
+use Rattle.apex_pictures.specs.declared.kinds.Kind.TheVariants.{Semaphore, Buffer, Blackboard, EventFlag}
+use Rattle.apex_pictures.proofs.Counted.{counts_with, many_counts, objects_whole}
 use Rattle.apex_pictures.proofs.Places.{length_of}
 use Rattle.apex_pictures.proofs.counts.Counts.put_changes.Goals as goal
 
--- counts of these
-abbrev counts_with : List ℕ → List ℕ → Counts
-counts_with values contents = record { values = values; contents = contents }
-
 pub returns-clause-text : goal.returns-clause-text
 returns-clause-text g c =
-    on_ok_weaker c.put_contents.result
-    (λ put. counters_whole c.args.kernel.now.table c.args.time c.args.self.now c.args.kernel.now.objects _ _ _ _ _
+    on_ok_weaker c.put_mutexes.result
+    (λ put. objects_whole c.args.table.now c.args.time c.args.stamp.now.ticks c.args.self.now (g.S.Store.roster c.args.store.now) c.args.objects.now
+    _ _ _ _ _ _ _ _ _ _ _
     (c.as_mut_slice.ensures.value ∙ ap (λ (s : Counts). s.values) c.self.view_is)
-    (c.as_mut_slice-2.ensures.value ∙ ap (λ (s : Counts). s.contents) c.self.view_is) c.in_ok-put_values.ensures.text put)
-    c.put_contents.ensures.text
+    (c.as_mut_slice-2.ensures.value ∙ ap (λ (s : Counts). s.contents) c.self.view_is)
+    (c.as_mut_slice-3.ensures.value ∙ ap (λ (s : Counts). s.displays) c.self.view_is)
+    (c.as_mut_slice-4.ensures.value ∙ ap (λ (s : Counts). s.flags) c.self.view_is)
+    (c.as_mut_slice-5.ensures.value ∙ ap (λ (s : Counts). s.owners) c.self.view_is)
+    c.in_ok-put_kind.ensures.text c.in_ok-put_kind-2.ensures.text c.in_ok-put_kind-3.ensures.text c.in_ok-put_kind-4.ensures.text put)
+    c.put_mutexes.ensures.text
 
 pub returns-clause-counts : goal.returns-clause-counts
 unfolding counts_of
 returns-clause-counts g c =
-    let table = c.args.kernel.now.table in
-    let objects = c.args.kernel.now.objects in
-    let value = value_of objects in
-    let content = content_of objects in
-    let values = c.in_ok-put_values.ensures.values in
-    let had : (length c.self.inside.values.items ≡ length table.semaphores) = ap (λ (s : Counts). length s.values) c.self.view_is ∙ c.requires.0 in
-    let held : (length c.self.inside.contents.items ≡ length table.buffers) = ap (λ (s : Counts). length s.contents) c.self.view_is ∙ c.requires.1 in
-    let valued = items-with_items c.self.inside.values c.put_values.new.values
-    (ap (λ (l : List ℕ). length l) values ∙ length_of value (length table.semaphores) ∙ sym had) ∙ values in
-    on_ok_weaker c.put_contents.result
-    (λ contents.
-    let contented = items-with_items c.self.inside.contents c.put_contents.new.contents
-    (ap (λ (l : List ℕ). length l) contents ∙ length_of content (length table.buffers) ∙ sym held) ∙ contents in
-    ap (λ (l : List ℕ). counts_with l (with_items c.self.inside.contents c.put_contents.new.contents).items) valued
-    ∙ ap (λ (l : List ℕ). counts_with (of_places value (length table.semaphores)) l) contented)
-    c.put_contents.ensures.contents
+    let table = c.args.table.now in
+    let objects = c.args.objects.now in
+    let had = c.requires.counts in
+    let old = c.self.inside in
+    let values = c.in_ok-put_kind.ensures.counts in
+    let contents = c.in_ok-put_kind-2.ensures.counts in
+    let displays = c.in_ok-put_kind-3.ensures.counts in
+    let flags = c.in_ok-put_kind-4.ensures.counts in
+    let valued = items-with_items old.values c.put_kind.new.counts
+    (ap (λ (l : List ℕ). length l) values ∙ many_counts table objects Semaphore
+    ∙ sym (ap (λ (s : Counts). length s.values) c.self.view_is ∙ had.values)) ∙ values in
+    let contented = items-with_items old.contents c.put_kind-2.new.counts
+    (ap (λ (l : List ℕ). length l) contents ∙ many_counts table objects Buffer
+    ∙ sym (ap (λ (s : Counts). length s.contents) c.self.view_is ∙ had.contents)) ∙ contents in
+    let displayed = items-with_items old.displays c.put_kind-3.new.counts
+    (ap (λ (l : List ℕ). length l) displays ∙ many_counts table objects Blackboard
+    ∙ sym (ap (λ (s : Counts). length s.displays) c.self.view_is ∙ had.displays)) ∙ displays in
+    let flagged = items-with_items old.flags c.put_kind-4.new.counts
+    (ap (λ (l : List ℕ). length l) flags ∙ many_counts table objects EventFlag
+    ∙ sym (ap (λ (s : Counts). length s.flags) c.self.view_is ∙ had.flags)) ∙ flags in
+    on_ok_weaker c.put_mutexes.result
+    (λ owners.
+    let owned = items-with_items old.owners c.put_mutexes.new.owners
+    (ap (λ (l : List (Option ℕ)). length l) owners ∙ length_of (owner (g.S.Store.roster c.args.store.now)) (length table.mutexes)
+    ∙ sym (ap (λ (s : Counts). length s.owners) c.self.view_is ∙ had.owners)) ∙ owners in
+    counts_with valued contented displayed flagged owned)
+    c.put_mutexes.ensures.owners

@@ -1,0 +1,13 @@
+-- The next text follows those before it.
+use Rattle.std.proofs.Common.{[]}
+use Rattle.apex_pictures.specs.Trace as trace
+use Rattle.apex_pictures.proofs.Places.{text_next}
+use Rattle.apex_pictures.proofs.mutexes.put_mutex_ends.Goals as goal
+
+pub loop-place-preserved : goal.loop-place-preserved
+loop-place-preserved c = record {
+  stamp = c.loop-place.invariant.stamp;
+  many = c.loop-place.invariant.many;
+  text = text_next (trace.mutex_at c.args.table.now c.args.time c.args.stamp.now.ticks c.args.last.now []) c.loop-place.place _ _ _ c.loop-place.invariant.text
+      (rw (c.at.ensures, c.owner_at-before.ensures) at c.in_ok-put_mutex.ensures);
+}
