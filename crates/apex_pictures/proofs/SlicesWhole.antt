@@ -1,8 +1,8 @@
 -- The texts of a slice's end and of its beginning, put together.
-use Rattle.std.proofs.Common.{◌≡◌, ◌∙◌, ℕ, List, ◌++◌, ap, sym, append_assoc, codes, decimal, arith}
+use Rattle.std.proofs.Common.{◌≡◌, ◌∙◌, ℕ, List, ◌++◌, ap, sym, append_assoc, inl, inr, codes, decimal, arith}
 use Rattle.std.proofs.lemmas.Fmt.{decimal_digit}
 use Rattle.apex_pictures.specs.Instants.{time_text}
-use Rattle.apex_pictures.specs.Stamps.{begin_back, begin_front, end_back, end_front}
+use Rattle.apex_pictures.specs.Stamps.{IsGroup, begin_back, begin_front, end_back, end_front}
 use Rattle.apex_pictures.specs.Trace.{begin_text, end_text}
 use Rattle.apex_pictures.specs.declared.trace.Spot.{Spot}
 
@@ -28,8 +28,11 @@ pub end_front_second : (group : ℕ) → group ≡ 2 → codes ",\n{\"ph\":\"E\"
 end_front_second group is =
     in_front (codes ",\n{\"ph\":\"E\",\"pid\":") (codes ",\"tid\":") (codes "2") group (ap decimal is ∙ two)
 
-pub end_front_third : (group : ℕ) → group ≡ 3 → codes ",\n{\"ph\":\"E\",\"pid\":3,\"tid\":" ≡ end_front group
-end_front_third group is =
+pub end_front_third : (group : ℕ) → IsGroup group → (group ≡ 1 → ⊥) → (group ≡ 2 → ⊥)
+    → codes ",\n{\"ph\":\"E\",\"pid\":3,\"tid\":" ≡ end_front group
+end_front_third group (inl first) one two = absurd (one first)
+end_front_third group (inr (inl second)) one two = absurd (two second)
+end_front_third group (inr (inr is)) one two =
     in_front (codes ",\n{\"ph\":\"E\",\"pid\":") (codes ",\"tid\":") (codes "3") group (ap decimal is ∙ three)
 
 pub begin_front_first : (group : ℕ) → group ≡ 1 → codes ",\n{\"ph\":\"B\",\"pid\":1,\"tid\":" ≡ begin_front group
@@ -40,8 +43,11 @@ pub begin_front_second : (group : ℕ) → group ≡ 2 → codes ",\n{\"ph\":\"B
 begin_front_second group is =
     in_front (codes ",\n{\"ph\":\"B\",\"pid\":") (codes ",\"tid\":") (codes "2") group (ap decimal is ∙ two)
 
-pub begin_front_third : (group : ℕ) → group ≡ 3 → codes ",\n{\"ph\":\"B\",\"pid\":3,\"tid\":" ≡ begin_front group
-begin_front_third group is =
+pub begin_front_third : (group : ℕ) → IsGroup group → (group ≡ 1 → ⊥) → (group ≡ 2 → ⊥)
+    → codes ",\n{\"ph\":\"B\",\"pid\":3,\"tid\":" ≡ begin_front group
+begin_front_third group (inl first) one two = absurd (one first)
+begin_front_third group (inr (inl second)) one two = absurd (two second)
+begin_front_third group (inr (inr is)) one two =
     in_front (codes ",\n{\"ph\":\"B\",\"pid\":") (codes ",\"tid\":") (codes "3") group (ap decimal is ∙ three)
 
 -- three texts behind another one

@@ -1,5 +1,5 @@
 -- The texts of a slice's end and of its beginning, before the number of its track and behind it.
-use Rattle.std.specs.Prelude.{◌≡◌, ◌≤◌, ℕ, List, ◌++◌, codes, decimal}
+use Rattle.std.specs.Prelude.{◌≡◌, ◌⊎◌, ℕ, List, ◌++◌, codes, decimal}
 use Rattle.apex_pictures.specs.Instants.{time_text}
 use Rattle.apex_pictures.specs.declared.stamps.Stamp.{Stamp}
 use Rattle.apex_pictures.specs.declared.trace.Spot.{Spot}
@@ -29,7 +29,7 @@ IsStamp stamp time =
 
 -- the group of the cores, of the processes or of the objects
 abbrev pub IsGroup : ℕ → Type 0
-IsGroup group = (1 ≤ group) × (group ≤ 3)
+IsGroup group = (group ≡ 1) ⊎ ((group ≡ 2) ⊎ (group ≡ 3))
 
 -- the texts of a stamp are those of this time, on a track of a core, of a process or of an object
 abbrev pub Stamps : Stamp → Spot → Type 0

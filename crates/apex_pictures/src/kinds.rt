@@ -5,10 +5,9 @@ ghost use Rattle.apex_pictures.specs.Counters.{back_text, front_text, object_nam
 ghost use Rattle.apex_pictures.specs.Counts.{content_of, count_of, displayed_on, object_count, raised_of, value_of};
 
 use crate::names::{blackboard_name, buffer_name, event_flag_name, semaphore_name};
-use apex_dispatch::{Kernel, Objects};
-use apex_store::Store;
+use apex_dispatch::Objects;
 use apex_table::Table;
-use apex_types::{BlackboardId, BufferId, EventId, MOST_OBJECTS, SemaphoreId};
+use apex_types::{BlackboardId, BufferId, EventId, SemaphoreId};
 
 /// A kind of objects that have a counter.
 #[derive(Clone, Copy)]

@@ -1,5 +1,4 @@
 -- The digit of the group is in the text.
-use Rattle.std.proofs.Common.{arith}
 use Rattle.apex_pictures.proofs.SlicesWhole.{end_front_first, end_front_second, end_front_third}
 use Rattle.apex_pictures.proofs.stamps.end_front.Goals as goal
 
@@ -10,5 +9,4 @@ pub returns-then-group-eq2-clause-value : goal.returns-then-group-eq2-clause-val
 returns-then-group-eq2-clause-value c = end_front_second c.args.group c.if-group-eq2.true
 
 pub returns-clause-value : goal.returns-clause-value
-returns-clause-value c =
-    end_front_third c.args.group (omega (arith, c.requires, c.if-group-eq1.false, c.if-group-eq2.false))
+returns-clause-value c = end_front_third c.args.group c.requires c.if-group-eq1.false c.if-group-eq2.false
