@@ -45,4 +45,4 @@ awaited_text table wait = wait_text wait
 -- the name of a waiting process's slice: the state, and what the process waits for if that is a thing
 abbrev pub waiting_text : Table → Option Wait → List ℕ
 waiting_text table None = state_text Waiting
-waiting_text table (Some wait) = state_text Waiting ++ codes " for " ++ awaited_text table wait
+waiting_text table (Some wait) = codes "WAITING for " ++ awaited_text table wait

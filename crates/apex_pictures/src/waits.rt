@@ -120,9 +120,11 @@ pub(crate) fn add_waiting(piece: &mut Piece, table: &Table, wait: &Option<Wait>)
     ensures text { piece.new.items ≡ piece.old.items ++ waiting_text table.now wait.now }
     ensures short { array_vec_len piece.new ≤ array_vec_len piece.old + WAITING }
 {
-    add_text(piece, *b"WAITING");
-    if let Some(wait) = wait {
-        add_text(piece, *b" for ");
-        add_awaited(piece, table, wait);
+    match wait {
+        None => add_text(piece, *b"WAITING"),
+        Some(wait) => {
+            add_text(piece, *b"WAITING for ");
+            add_awaited(piece, table, wait);
+        }
     }
 }
