@@ -97,7 +97,7 @@ column_says table machine k column is =
           ∙ ap (λ (c : Cell). c.owned) (place_of (cell_of roster) (length roster.records) p no_cell within);
       running = λ core within. ap (λ (s : Shown). slice_index_or s.running core None) found.shown
           ∙ place_of (chosen roster) 8 core None within;
-      owners = λ m within. owners_all table roster _ _ (ap (λ (s : Shown). s.counts) found.shown) m within;
+      owners = λ m within. owners_all table roster (take (suc k) machine.history) _ (ap (λ (s : Shown). s.counts) found.shown) m within;
       counts_after = rw (add-one k) (counts_all table roster _ _ (ap (λ (s : Shown). s.counts) found.shown));
       counts_before = counts_all table found.before _ _ found.counts;
     }

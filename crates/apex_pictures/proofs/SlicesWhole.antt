@@ -30,9 +30,9 @@ end_front_second group is =
 
 pub end_front_third : (group : ℕ) → IsGroup group → (group ≡ 1 → ⊥) → (group ≡ 2 → ⊥)
     → codes ",\n{\"ph\":\"E\",\"pid\":3,\"tid\":" ≡ end_front group
-end_front_third group (inl first) one two = absurd (one first)
-end_front_third group (inr (inl second)) one two = absurd (two second)
-end_front_third group (inr (inr is)) one two =
+end_front_third group (inl first) not_first not_second = absurd (not_first first)
+end_front_third group (inr (inl second)) not_first not_second = absurd (not_second second)
+end_front_third group (inr (inr is)) not_first not_second =
     in_front (codes ",\n{\"ph\":\"E\",\"pid\":") (codes ",\"tid\":") (codes "3") group (ap decimal is ∙ three)
 
 pub begin_front_first : (group : ℕ) → group ≡ 1 → codes ",\n{\"ph\":\"B\",\"pid\":1,\"tid\":" ≡ begin_front group
@@ -45,9 +45,9 @@ begin_front_second group is =
 
 pub begin_front_third : (group : ℕ) → IsGroup group → (group ≡ 1 → ⊥) → (group ≡ 2 → ⊥)
     → codes ",\n{\"ph\":\"B\",\"pid\":3,\"tid\":" ≡ begin_front group
-begin_front_third group (inl first) one two = absurd (one first)
-begin_front_third group (inr (inl second)) one two = absurd (two second)
-begin_front_third group (inr (inr is)) one two =
+begin_front_third group (inl first) not_first not_second = absurd (not_first first)
+begin_front_third group (inr (inl second)) not_first not_second = absurd (not_second second)
+begin_front_third group (inr (inr is)) not_first not_second =
     in_front (codes ",\n{\"ph\":\"B\",\"pid\":") (codes ",\"tid\":") (codes "3") group (ap decimal is ∙ three)
 
 -- three texts behind another one

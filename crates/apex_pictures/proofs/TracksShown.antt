@@ -71,6 +71,15 @@ texts_same f g zero same = refl
 texts_same f g (suc n) same =
     ap (λ l. l ++ f n) (texts_same f g n same) ∙ ap (λ l. texts_of g n ++ l) (same n)
 
+-- the changes on the track of a process, by what the tracks show
+pub process_seen : (table : Table) (time now p : ℕ) (before after old new : Cell) (text whole : List ℕ)
+    → before ≡ old → after ≡ new
+    → whole ≡ text ++ trace.process_text table (trace.process_spot p time) now before after
+    → whole ≡ text ++ trace.process_text table (trace.process_spot p time) now old new
+process_seen table time now p before after old new text whole was is put =
+    put ∙ ap (λ (c : Cell). text ++ trace.process_text table (trace.process_spot p time) now c after) was
+    ∙ ap (λ (c : Cell). text ++ trace.process_text table (trace.process_spot p time) now old c) is
+
 process_same : (table : Table) (time now : ℕ) (before after : Shown) (p : ℕ)
     → trace.process_at table time now (bare before) (bare after) p ≡ trace.process_at table time now before after p
 process_same table time now before after p =

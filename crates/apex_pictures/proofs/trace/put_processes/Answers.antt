@@ -5,7 +5,7 @@ use Rattle.apex_pictures.specs.Moments.{no_cell, with_cells}
 use Rattle.apex_pictures.specs.Trace as trace
 use Rattle.apex_pictures.specs.Tracks.{bare_cells, cell_on, no_track, track_of}
 use Rattle.apex_pictures.proofs.Places.{changed_at, kept_at, text_next}
-use Rattle.apex_pictures.proofs.TracksShown.{track_now, track_seen}
+use Rattle.apex_pictures.proofs.TracksShown.{process_seen, track_now, track_seen}
 use Rattle.apex_pictures.proofs.trace.put_processes.Goals as goal
 
 pub loop-place-preserved : goal.loop-place-preserved
@@ -28,5 +28,6 @@ loop-place-preserved g c =
       running = at.running;
       tracks = changed_at (track_of roster) place old _ _ _ kept at.tracks refl track;
       text = text_next (trace.process_at c.args.table.now c.args.time c.args.stamp.now.ticks (with_cells (map cell_on old)) (with_cells (bare_cells roster))) place _ _ _ at.text
-          (rw (c.at-process.ensures, was, is) at c.in_ok-put_process.ensures);
+          (process_seen c.args.table.now c.args.time c.args.stamp.now.ticks place (cell_on c.track_at-before.result) (cell_on c.track_of-track.result) _ _
+          c.loop-place.text.items _ was is (rw c.at-process.ensures at c.in_ok-put_process.ensures));
     }
