@@ -8,7 +8,6 @@ use Rattle.apex_machine.specs.table.Table.{Table}
 use Rattle.apex_pictures.specs.Counters.{back_text, change_text, changed_text, count_text, counter_text, front_text, kind_text, kind_word, object_name, same_count, unit_word}
 use Rattle.apex_pictures.specs.Counts.{Counts, HasCounts, count_of, counts_in, counts_of, object_count, owners_in}
 use Rattle.apex_pictures.specs.Instants.{time_text}
-use Rattle.apex_pictures.specs.Places.{of_places}
 use Rattle.apex_pictures.specs.Trace.{mutexes_text, objects_text}
 use Rattle.apex_pictures.specs.declared.kinds.Kind.{Kind}
 use Rattle.apex_pictures.specs.declared.kinds.Kind.TheVariants.{Semaphore, Buffer, Blackboard, EventFlag}

@@ -15,7 +15,6 @@ use Rattle.apex_pictures.specs.Instants.{time_text}
 use Rattle.apex_pictures.specs.Moments.{Shown, no_cell, none_shown}
 use Rattle.apex_pictures.specs.Stamps.{begin_back}
 use Rattle.apex_pictures.specs.Svg.{texts}
-use Rattle.apex_types.specs.declared.modes.DeadlineType.{DeadlineType}
 use Rattle.apex_pictures.specs.Terms.{Cell, Entry, Notice, State, Wait}
 use Rattle.apex_pictures.specs.Waits.{same_things, waiting_text}
 use Rattle.apex_json.specs.Strings.{json_text}

@@ -1,7 +1,6 @@
 -- The counts are those that the history gives, and the texts are one behind the other.
 use Rattle.std.proofs.Common.{◌≡◌, ◌∙◌, ap, refl, subst, sym}
 use Rattle.std.proofs.lemmas.Result.{on_ok_weaker}
-use Rattle.apex_machine.specs.Deeds.{Objects}
 use Rattle.apex_machine.specs.Machine.{objects_after}
 use Rattle.apex_machine.specs.Situations.{Situation}
 use Rattle.apex_machine.specs.processes.Roster.{Roster}

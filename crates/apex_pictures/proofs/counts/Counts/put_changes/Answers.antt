@@ -1,10 +1,9 @@
 -- The counts are those of the objects.
-use Rattle.std.proofs.Common.{◌≡◌, ◌∙◌, ℕ, List, Option, ap, length, sym}
+use Rattle.std.proofs.Common.{◌∙◌, ℕ, List, Option, ap, length, sym}
 use Rattle.std.proofs.lemmas.Result.{on_ok_weaker}
 use Rattle.arrayvec.proofs.ArrayVecLemmas.{items-with_items}
-use Rattle.arrayvec.specs.ArrayVec.{with_items}
 use Rattle.apex_machine.specs.processes.Owners.{owner}
-use Rattle.apex_pictures.specs.Counts.{Counts, counts_in, counts_of, object_count}
+use Rattle.apex_pictures.specs.Counts.{Counts, counts_of}
 use Rattle.apex_pictures.specs.declared.kinds.Kind.TheVariants.{Semaphore, Buffer, Blackboard, EventFlag}
 use Rattle.apex_pictures.proofs.Counted.{counts_with, many_counts, objects_whole}
 use Rattle.apex_pictures.proofs.Places.{length_of}
