@@ -3,6 +3,7 @@
 //! objects and the owner of each mutex.
 #![tactic(auto)]
 
+mod beings;
 mod counters;
 mod counts;
 mod drawing;
@@ -22,7 +23,6 @@ mod svg;
 mod texts;
 mod trace;
 mod tracks;
-mod waits;
 mod words;
 
 pub use counts::Counts;

@@ -12,23 +12,24 @@ ghost use Rattle.apex_pictures.specs.Stamps.{IsStamp, Stamps};
 ghost use Rattle.apex_pictures.specs.Trace as trace;
 ghost use Rattle.apex_pictures.specs.declared.pieces.TheConstants.{PIECE_ROOM};
 ghost use Rattle.apex_pictures.specs.declared.trace.TheConstants.{BEGIN, END, NAME};
-ghost use Rattle.apex_pictures.specs.declared.waits.TheConstants.{WAITING};
+ghost use Rattle.apex_pictures.specs.Beings.{is_begun};
+ghost use Rattle.apex_pictures.specs.declared.beings.TheConstants.{BEING_ROOM};
 ghost use Rattle.apex_pictures.specs.Tracks.{bare, bare_cells, cell_on, track_of};
 
+use crate::beings::{BEING_ROOM, Being, add_being_name, is_begun, is_same_being};
 use crate::counters::put_first_counts;
 use crate::moments::{CORES, running_at};
 use crate::mutexes::{put_mutex_ends, put_mutex_names};
 use crate::pieces::{Piece, add, add_number, add_text};
 use crate::stamps::{BEGIN_ROOM, END_ROOM, FRONT, Stamp, begin_front, end_front};
 use crate::texts::{Part, put, put_all};
-use crate::tracks::{Track, Tracks, track_at, track_of};
-use crate::waits::{WAITING, add_waiting, are_same_things};
+use crate::tracks::{Tracks, track_at, track_of};
 use crate::words::{code_word, deadline_word, id_part, name_of, put_id};
 use apex_dispatch::Kernel;
 use apex_json::{MOST_ESCAPE, add_json};
 use apex_store::Store;
 use apex_table::Table;
-use apex_types::{CoreId, LentEntry, MOST_NAME, MutexId, Notice, ProcessId, State};
+use apex_types::{CoreId, LentEntry, MOST_NAME, MutexId, Notice, ProcessId};
 use std::alloc::AllocError;
 
 /// The place of a slice or a mark in a trace: its group, its track and its time.
@@ -197,27 +198,19 @@ fn add_running(
     }
 }
 
-/// Adds the slice of the state that a process enters, with its wait; DORMANT has no slice.
+/// Adds the slice of a process; a dormant one has none.
 #[inline(always)]
 #[tactic(auto, using(std::proofs::Common::append_assoc))]
-fn add_being(piece: &mut Piece, table: &Table, spot: Spot, stamp: &Stamp, track: &Track)
+fn add_being(piece: &mut Piece, table: &Table, spot: Spot, stamp: &Stamp, being: Being)
     requires stamps { Stamps stamp.now spot }
-    requires room { array_vec_len piece.old + BEGIN + WAITING + 2 ≤ PIECE_ROOM }
+    requires room { array_vec_len piece.old + BEGIN + BEING_ROOM + 2 ≤ PIECE_ROOM }
     ensures { piece.new.items ≡ piece.old.items
-        ++ trace.being_text table.now spot stamp.now.ticks track.now.state track.now.wait }
+        ++ trace.being_text table.now spot stamp.now.ticks being }
 {
-    if let State::Dormant = track.state {
-        return;
-    }
-    add_begin(piece, spot, stamp);
-    match track.state {
-        State::Dormant => unreachable!(),
-        State::Ready => add_text(piece, *b"READY\"}"),
-        State::Running => add_text(piece, *b"RUNNING\"}"),
-        State::Waiting => {
-            add_waiting(piece, table, &track.wait);
-            add_text(piece, *b"\"}");
-        }
+    if is_begun(being) {
+        add_begin(piece, spot, stamp);
+        add_being_name(piece, table, being);
+        add_text(piece, *b"\"}");
     }
 }
 
@@ -290,30 +283,6 @@ fn put_core(
     put_switch(text, table, core_spot(core, time), stamp, before, after)
 }
 
-#[inline(always)]
-fn is_same_state(before: State, after: State) -> bool
-    ensures { result ≡ trace.same_state before after }
-{
-    before == after
-}
-
-/// Two slices of a process are one.
-#[inline(always)]
-fn is_same_being(before: &Track, after: &Track) -> bool
-    ensures { result ≡ trace.same_being (cell_on before.now) (cell_on after.now) }
-{
-    is_same_state(before.state, after.state) && are_same_things(&before.wait, &after.wait)
-}
-
-fn is_begun(state: State) -> bool
-    ensures { result ≡ trace.is_begun state }
-{
-    match state {
-        State::Dormant => false,
-        State::Ready | State::Running | State::Waiting => true,
-    }
-}
-
 /// Puts the end of the slice on the track of a process, and the beginning of the next one.
 // Not inlined, as on most tracks an entry changes nothing.
 #[inline(never)]
@@ -322,16 +291,16 @@ fn put_change(
     table: &Table,
     spot: Spot,
     stamp: &Stamp,
-    before: &Track,
-    after: &Track,
+    before: Being,
+    after: Being,
 ) -> Result<(), AllocError>
     requires { Stamps stamp.now spot }
     ensures { OnOk result (text.new.items ≡ text.old.items
-        ++ (trace.ended (trace.is_begun before.now.state) spot
-        ++ trace.being_text table.now spot stamp.now.ticks after.now.state after.now.wait)) }
+        ++ (trace.ended (is_begun before) spot
+        ++ trace.being_text table.now spot stamp.now.ticks after)) }
 {
     let mut piece = Piece::new();
-    add_ended(&mut piece, spot, stamp, is_begun(before.state));
+    add_ended(&mut piece, spot, stamp, is_begun(before));
     add_being(&mut piece, table, spot, stamp, after);
     text.extend_from_slice(piece.as_slice())
 }
@@ -344,13 +313,12 @@ fn put_process(
     process: ProcessId,
     time: u64,
     stamp: &Stamp,
-    before: &Track,
-    after: &Track,
+    before: Being,
+    after: Being,
 ) -> Result<(), AllocError>
     requires { IsStamp stamp.now time }
     ensures { OnOk result (text.new.items ≡ text.old.items ++ trace.process_text table.now
-        (trace.process_spot process time) stamp.now.ticks (cell_on before.now)
-        (cell_on after.now)) }
+        (trace.process_spot process time) stamp.now.ticks before after) }
 {
     if is_same_being(before, after) {
         return Ok(());
@@ -459,7 +427,7 @@ pub(crate) fn put_processes<S: Store>(
     running: &[Option<ProcessId>],
     time: u64,
     stamp: &Stamp,
-    tracks: &mut [Track],
+    tracks: &mut [Being],
 ) -> Result<(), AllocError>
     requires stamp { IsStamp stamp.now time }
     requires running { running.now ≡ running_in (S.roster store.now) }
@@ -475,7 +443,7 @@ pub(crate) fn put_processes<S: Store>(
         let process = ProcessId::at(place as u8);
         let track = track_of(store, process, running);
         let before = track_at(tracks, place);
-        put_process(text, table, process, time, stamp, &before, &track)?;
+        put_process(text, table, process, time, stamp, before, track)?;
         tracks[place] = track;
     }
     Ok(())
@@ -487,7 +455,7 @@ fn put_ends(
     table: &Table,
     time: u64,
     stamp: &Stamp,
-    last: &[Track],
+    last: &[Being],
 ) -> Result<(), AllocError>
     requires { IsStamp stamp.now time }
     ensures { OnOk result (text.new.items ≡ text.old.items
@@ -497,15 +465,7 @@ fn put_ends(
     for place in 0..table.process_count() {
         let process = ProcessId::at(place as u8);
         let before = track_at(last, place);
-        put_process(
-            text,
-            table,
-            process,
-            time,
-            stamp,
-            &before,
-            &Track::default(),
-        )?;
+        put_process(text, table, process, time, stamp, before, Being::Dormant)?;
     }
     Ok(())
 }

@@ -5,47 +5,29 @@ ghost use Rattle.apex_pictures.specs.Counts.{HasCounts, counts_of};
 ghost use Rattle.apex_pictures.specs.Moments.{moment_of, running_in};
 ghost use Rattle.apex_pictures.specs.Stamps.{IsStamp};
 ghost use Rattle.apex_pictures.specs.Trace.{changes_text, objects_text};
-ghost use Rattle.apex_pictures.specs.Tracks.{bare, cell_on, no_track, track_of};
+ghost use Rattle.apex_pictures.specs.Tracks.{bare, cell_on, track_of};
+ghost use Rattle.apex_pictures.specs.declared.beings.Being.TheVariants.{Dormant};
 
+use crate::beings::{Being, being_of};
 use crate::counts::Counts;
 use crate::moments::{CORES, running_of, state_of};
 use crate::stamps::Stamp;
 use crate::trace::{put_processes, put_runs};
 use apex_dispatch::Objects;
-use apex_machine::Wait;
 use apex_store::Store;
 use apex_table::Table;
-use apex_types::{MOST_CORES, MOST_PROCESSES, ProcessId, State};
+use apex_types::{MOST_CORES, MOST_PROCESSES, ProcessId};
 use arrayvec::ArrayVec;
 use std::alloc::AllocError;
 use std::marker::Model;
 
-/// What the track of a process shows after an entry.
-#[derive(Clone, Copy)]
-pub(crate) struct Track {
-    pub(crate) state: State,
-    /// Its wait, if it waits.
-    pub(crate) wait: Option<Wait>,
-}
-
-impl Default for Track {
-    fn default() -> Track
-        ensures { result ≡ no_track }
-    {
-        Track {
-            state: State::Dormant,
-            wait: None,
-        }
-    }
-}
-
-/// All processes after an entry, as a trace shows them: the state of each of them and what it waits
-/// for, and the process that each core runs. It has the counts of the objects too.
+/// All processes after an entry, as a trace shows them: what the slice of each of them shows, and the
+/// process that each core runs. It has the counts of the objects too.
 ///
-/// A contract sees a moment whose cells have no mutex.
+/// A contract sees a moment whose cells show no more than that.
 #[derive(Drop)]
 pub(crate) struct Tracks {
-    tracks: ArrayVec<Track, MOST_PROCESSES>,
+    tracks: ArrayVec<Being, MOST_PROCESSES>,
     running: ArrayVec<Option<ProcessId>, CORES>,
     counts: Counts,
 }
@@ -64,23 +46,23 @@ impl Model for Tracks {
     } };
 }
 
-/// The track of a process, given the process that each core runs.
+/// What the track of a process shows, given the process that each core runs.
 #[inline(always)]
 pub(crate) fn track_of<S: Store>(
     store: &S,
     process: ProcessId,
     running: &[Option<ProcessId>],
-) -> Track
+) -> Being
     requires known { process < length (S.roster store.now).records }
     requires running { running.now ≡ running_in (S.roster store.now) }
     ensures { result ≡ track_of (S.roster store.now) process }
 {
     let fields = store.record(process);
     prove!(u32::from(fields.core.number()) < MOST_CORES);
-    Track {
-        state: state_of(process, fields, store.mode(), running),
-        wait: fields.wait,
-    }
+    being_of(
+        state_of(process, fields, store.mode(), running),
+        &fields.wait,
+    )
 }
 
 /// The tracks of the processes of a store, and these counts.
@@ -100,14 +82,14 @@ pub(crate) fn tracks_of<S: Store>(store: &S, counts: Counts) -> Tracks
     }
 }
 
-/// The track at a place; that of no process if there is no such track.
+/// What the track at a place shows; DORMANT if there is no such track.
 #[inline(always)]
-pub(crate) fn track_at(tracks: &[Track], place: usize) -> Track
-    ensures { result ≡ slice_index_or tracks.now place no_track }
+pub(crate) fn track_at(tracks: &[Being], place: usize) -> Being
+    ensures { result ≡ slice_index_or tracks.now place Dormant }
 {
     match tracks.get(place) {
         Some(track) => *track,
-        None => Track::default(),
+        None => Being::Dormant,
     }
 }
 
@@ -163,7 +145,7 @@ impl Tracks {
     }
 
     /// The tracks of the processes.
-    pub(crate) fn tracks(&self) -> &[Track]
+    pub(crate) fn tracks(&self) -> &[Being]
         ensures { map cell_on result.now ≡ self.now.cells }
     {
         self.tracks.as_slice()

@@ -1,23 +1,22 @@
 -- The next text follows those before it.
-use Rattle.std.proofs.Common.{◌≡◌, ◌∙◌, ap}
+use Rattle.std.proofs.Common.{◌≡◌, ◌∙◌}
 use Rattle.std.specs.Prelude.{map, slice_index_or}
+use Rattle.apex_pictures.specs.Beings.{being_in}
 use Rattle.apex_pictures.specs.Moments.{no_cell, none_shown, with_cells}
 use Rattle.apex_pictures.specs.Trace as trace
 use Rattle.apex_pictures.specs.Tracks.{cell_on}
 use Rattle.apex_pictures.proofs.Places.{text_next}
-use Rattle.apex_pictures.proofs.TracksShown.{process_seen, track_seen}
+use Rattle.apex_pictures.proofs.TracksShown.{track_seen}
 use Rattle.apex_pictures.proofs.trace.put_ends.Goals as goal
 
 pub loop-place-preserved : goal.loop-place-preserved
 loop-place-preserved c =
     let place = c.loop-place.place in
-    let was : cell_on c.track_at-before.result ≡ slice_index_or (map cell_on c.args.last.now) place no_cell =
-    ap cell_on c.track_at-before.ensures ∙ track_seen c.args.last.now place in
-    let is : cell_on c.default.result ≡ no_cell = ap cell_on c.default.ensures in
+    let was : c.track_at-before.result ≡ being_in (slice_index_or (map cell_on c.args.last.now) place no_cell) =
+    c.track_at-before.ensures ∙ track_seen c.args.last.now place in
     record {
       stamp = c.loop-place.invariant.stamp;
       many = c.loop-place.invariant.many;
       text = text_next (trace.process_at c.args.table.now c.args.time c.args.stamp.now.ticks (with_cells (map cell_on c.args.last.now)) none_shown) place _ _ _ c.loop-place.invariant.text
-          (process_seen c.args.table.now c.args.time c.args.stamp.now.ticks place (cell_on c.track_at-before.result) (cell_on c.default.result) _ no_cell
-          c.loop-place.text.items _ was is (rw c.at-process.ensures at c.in_ok-put_process.ensures));
+          (rw (c.at-process.ensures, was) at c.in_ok-put_process.ensures);
     }

@@ -9,7 +9,7 @@ use Rattle.apex_machine.specs.processes.Running.{chosen}
 use Rattle.apex_types.specs.declared.limits.TheConstants.{MOST_CORES}
 use Rattle.apex_pictures.specs.Moments.{Shown, moment_of}
 use Rattle.apex_pictures.specs.Tracks.{bare, cell_on, track_of}
-use Rattle.apex_pictures.specs.declared.tracks.Track.{Track}
+use Rattle.apex_pictures.specs.declared.beings.Being.{Being}
 use Rattle.apex_pictures.proofs.Places.{length_of}
 use Rattle.apex_pictures.proofs.TracksShown.{shown_of, tracks_same}
 use Rattle.apex_pictures.proofs.tracks.Tracks.put_changes.Goals as goal
@@ -31,8 +31,8 @@ returns-clause-tracks g c =
     (λ is.
     let tracks = c.put_processes.new.tracks in
     let same : length tracks ≡ length old.items =
-    ap (λ (all : List Track). length all) is ∙ length_of (track_of roster) (length roster.records) ∙ sym many in
-    ap (λ (all : List Track). shown_of (map cell_on all) running counts) (items-with_items old tracks same)
+    ap (λ (all : List Being). length all) is ∙ length_of (track_of roster) (length roster.records) ∙ sym many in
+    ap (λ (all : List Being). shown_of (map cell_on all) running counts) (items-with_items old tracks same)
     ∙ tracks_same roster tracks running counts is (items-with_items ran c.put_runs.new.running kept ∙ runs)
     ∙ ap (λ (s : Shown). bare (moment_of roster s.counts)) c.self.view_is)
     c.put_processes.ensures.tracks
