@@ -85,8 +85,8 @@ pub(crate) fn being_of(state: State, wait: &Option<Wait>) -> Being
 
 /// There is a slice.
 #[inline(always)]
-pub(crate) fn is_begun(being: Being) -> bool
-    ensures { result ≡ is_begun being }
+pub(crate) fn is_begun(being: &Being) -> bool
+    ensures { result ≡ is_begun being.now }
 {
     match being {
         Being::Dormant => false,
@@ -96,8 +96,8 @@ pub(crate) fn is_begun(being: Being) -> bool
 
 /// Two slices show the same.
 #[inline(always)]
-pub(crate) fn is_same_being(before: Being, after: Being) -> bool
-    ensures { result ≡ same_being before after }
+pub(crate) fn is_same_being(before: &Being, after: &Being) -> bool
+    ensures { result ≡ same_being before.now after.now }
 {
     match before {
         Being::Dormant => matches!(after, Being::Dormant),
@@ -133,9 +133,9 @@ pub(crate) fn is_same_being(before: Being, after: Being) -> bool
 
 /// Adds the name of a slice; that of a dormant process has no byte.
 #[tactic(auto, using(std::proofs::Common::append_assoc))]
-pub(crate) fn add_being_name(piece: &mut Piece, table: &Table, being: Being)
+pub(crate) fn add_being_name(piece: &mut Piece, table: &Table, being: &Being)
     requires { array_vec_len piece.old + BEING_ROOM ≤ PIECE_ROOM }
-    ensures text { piece.new.items ≡ piece.old.items ++ being_name table.now being }
+    ensures text { piece.new.items ≡ piece.old.items ++ being_name table.now being.now }
     ensures short { array_vec_len piece.new ≤ array_vec_len piece.old + BEING_ROOM }
 {
     match being {
@@ -149,23 +149,23 @@ pub(crate) fn add_being_name(piece: &mut Piece, table: &Table, being: Being)
         Being::Period => add_text(piece, *b"WAITING for period"),
         Being::Semaphore(semaphore) => {
             add_text(piece, *b"WAITING for semaphore ");
-            add_json(piece, semaphore_name(table, semaphore));
+            add_json(piece, semaphore_name(table, *semaphore));
         }
         Being::Buffer(buffer) => {
             add_text(piece, *b"WAITING for buffer ");
-            add_json(piece, buffer_name(table, buffer));
+            add_json(piece, buffer_name(table, *buffer));
         }
         Being::Blackboard(blackboard) => {
             add_text(piece, *b"WAITING for blackboard ");
-            add_json(piece, blackboard_name(table, blackboard));
+            add_json(piece, blackboard_name(table, *blackboard));
         }
         Being::EventFlag(event) => {
             add_text(piece, *b"WAITING for event ");
-            add_json(piece, event_flag_name(table, event));
+            add_json(piece, event_flag_name(table, *event));
         }
         Being::Mutex(mutex) => {
             add_text(piece, *b"WAITING for mutex ");
-            add_json(piece, mutex_name(table, mutex));
+            add_json(piece, mutex_name(table, *mutex));
         }
     }
 }

@@ -201,11 +201,11 @@ fn add_running(
 /// Adds the slice of a process; a dormant one has none.
 #[inline(always)]
 #[tactic(auto, using(std::proofs::Common::append_assoc))]
-fn add_being(piece: &mut Piece, table: &Table, spot: Spot, stamp: &Stamp, being: Being)
+fn add_being(piece: &mut Piece, table: &Table, spot: Spot, stamp: &Stamp, being: &Being)
     requires stamps { Stamps stamp.now spot }
     requires room { array_vec_len piece.old + BEGIN + BEING_ROOM + 2 ≤ PIECE_ROOM }
     ensures { piece.new.items ≡ piece.old.items
-        ++ trace.being_text table.now spot stamp.now.ticks being }
+        ++ trace.being_text table.now spot stamp.now.ticks being.now }
 {
     if is_begun(being) {
         add_begin(piece, spot, stamp);
@@ -291,13 +291,13 @@ fn put_change(
     table: &Table,
     spot: Spot,
     stamp: &Stamp,
-    before: Being,
-    after: Being,
+    before: &Being,
+    after: &Being,
 ) -> Result<(), AllocError>
     requires { Stamps stamp.now spot }
     ensures { OnOk result (text.new.items ≡ text.old.items
-        ++ (trace.ended (is_begun before) spot
-        ++ trace.being_text table.now spot stamp.now.ticks after)) }
+        ++ (trace.ended (is_begun before.now) spot
+        ++ trace.being_text table.now spot stamp.now.ticks after.now)) }
 {
     let mut piece = Piece::new();
     add_ended(&mut piece, spot, stamp, is_begun(before));
@@ -313,12 +313,12 @@ fn put_process(
     process: ProcessId,
     time: u64,
     stamp: &Stamp,
-    before: Being,
-    after: Being,
+    before: &Being,
+    after: &Being,
 ) -> Result<(), AllocError>
     requires { IsStamp stamp.now time }
     ensures { OnOk result (text.new.items ≡ text.old.items ++ trace.process_text table.now
-        (trace.process_spot process time) stamp.now.ticks before after) }
+        (trace.process_spot process time) stamp.now.ticks before.now after.now) }
 {
     if is_same_being(before, after) {
         return Ok(());
@@ -443,7 +443,7 @@ pub(crate) fn put_processes<S: Store>(
         let process = ProcessId::at(place as u8);
         let track = track_of(store, process, running);
         let before = track_at(tracks, place);
-        put_process(text, table, process, time, stamp, before, track)?;
+        put_process(text, table, process, time, stamp, &before, &track)?;
         tracks[place] = track;
     }
     Ok(())
@@ -465,7 +465,7 @@ fn put_ends(
     for place in 0..table.process_count() {
         let process = ProcessId::at(place as u8);
         let before = track_at(last, place);
-        put_process(text, table, process, time, stamp, before, Being::Dormant)?;
+        put_process(text, table, process, time, stamp, &before, &Being::Dormant)?;
     }
     Ok(())
 }
