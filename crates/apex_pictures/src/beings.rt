@@ -1,21 +1,25 @@
 //! What the slices of processes show in a trace: the state, and what a waiting process waits for.
 ghost use Rattle.std.specs.Prelude.{◌≡◌, ◌+◌, ◌≤◌, ◌++◌, length};
+ghost use Rattle.apex_json.specs.Strings.{json_text};
 ghost use Rattle.apex_types.specs.declared.limits.TheConstants.{MOST_NAME};
 ghost use Rattle.arrayvec.specs.ArrayVec.{array_vec_len};
 ghost use Rattle.apex_pictures.specs.Beings.{awaiting, being_name, being_of, is_begun, same_being};
-ghost use Rattle.apex_pictures.specs.declared.beings.TheConstants.{BEING_ROOM};
+ghost use Rattle.apex_pictures.specs.declared.beings.TheConstants.{BEING_ROOM, FRONT};
 ghost use Rattle.apex_pictures.specs.declared.beings.Being.TheVariants as beings;
 ghost use Rattle.apex_pictures.specs.declared.pieces.TheConstants.{PIECE_ROOM};
 
 use crate::names::{blackboard_name, buffer_name, event_flag_name, mutex_name, semaphore_name};
-use crate::pieces::{Piece, add_text};
+use crate::pieces::{Piece, add, add_text};
 use apex_json::{MOST_ESCAPE, add_json};
 use apex_machine::Wait;
 use apex_table::Table;
 use apex_types::{BlackboardId, BufferId, EventId, MOST_NAME, MutexId, SemaphoreId, State};
 
+/// The most bytes before the name of the object for which a process waits.
+const FRONT: usize = 23;
+
 /// The most bytes of the name of a process's slice.
-pub(crate) const BEING_ROOM: usize = 23 + MOST_ESCAPE * MOST_NAME;
+pub(crate) const BEING_ROOM: usize = FRONT + MOST_ESCAPE * MOST_NAME;
 
 /// What the slice of a process shows. From `Waiting` on the process is WAITING.
 #[derive(Clone, Copy)]
@@ -131,8 +135,21 @@ pub(crate) fn is_same_being(before: &Being, after: &Being) -> bool
     }
 }
 
-/// Adds the name of a slice; that of a dormant process has no byte.
+/// Adds these words and the name of an object behind them.
+#[inline(always)]
 #[tactic(auto, using(std::proofs::Common::append_assoc))]
+fn add_named(piece: &mut Piece, front: &str, name: &[u8])
+    requires front { length front.now ≤ FRONT }
+    requires name { length name.now ≤ MOST_NAME }
+    requires room { array_vec_len piece.old + BEING_ROOM ≤ PIECE_ROOM }
+    ensures text { piece.new.items ≡ piece.old.items ++ (front.now ++ json_text name.now) }
+    ensures short { array_vec_len piece.new ≤ array_vec_len piece.old + BEING_ROOM }
+{
+    add(piece, front);
+    add_json(piece, name);
+}
+
+/// Adds the name of a slice; that of a dormant process has no byte.
 pub(crate) fn add_being_name(piece: &mut Piece, table: &Table, being: &Being)
     requires { array_vec_len piece.old + BEING_ROOM ≤ PIECE_ROOM }
     ensures text { piece.new.items ≡ piece.old.items ++ being_name table.now being.now }
@@ -148,24 +165,25 @@ pub(crate) fn add_being_name(piece: &mut Piece, table: &Table, being: &Being)
         Being::Time => add_text(piece, *b"WAITING for time"),
         Being::Period => add_text(piece, *b"WAITING for period"),
         Being::Semaphore(semaphore) => {
-            add_text(piece, *b"WAITING for semaphore ");
-            add_json(piece, semaphore_name(table, *semaphore));
+            add_named(
+                piece,
+                "WAITING for semaphore ",
+                semaphore_name(table, *semaphore),
+            )
         }
         Being::Buffer(buffer) => {
-            add_text(piece, *b"WAITING for buffer ");
-            add_json(piece, buffer_name(table, *buffer));
+            add_named(piece, "WAITING for buffer ", buffer_name(table, *buffer))
         }
         Being::Blackboard(blackboard) => {
-            add_text(piece, *b"WAITING for blackboard ");
-            add_json(piece, blackboard_name(table, *blackboard));
+            add_named(
+                piece,
+                "WAITING for blackboard ",
+                blackboard_name(table, *blackboard),
+            )
         }
         Being::EventFlag(event) => {
-            add_text(piece, *b"WAITING for event ");
-            add_json(piece, event_flag_name(table, *event));
+            add_named(piece, "WAITING for event ", event_flag_name(table, *event))
         }
-        Being::Mutex(mutex) => {
-            add_text(piece, *b"WAITING for mutex ");
-            add_json(piece, mutex_name(table, *mutex));
-        }
+        Being::Mutex(mutex) => { add_named(piece, "WAITING for mutex ", mutex_name(table, *mutex)) }
     }
 }
