@@ -57,6 +57,10 @@ same_being (EventFlag e) (EventFlag f) = e == f
 same_being (Mutex m) (Mutex n) = m == n
 same_being being other = false
 
+-- these words, and the name of an object behind them
+abbrev pub named_text : List ℕ → List ℕ → List ℕ
+named_text front name = front ++ json_text name
+
 -- the name of a slice: the state, and the word or the object for which a waiting process waits
 abbrev pub being_name : Table → Being → List ℕ
 being_name table Dormant = []
@@ -67,8 +71,8 @@ being_name table Normal = codes "WAITING for normal"
 being_name table Start = codes "WAITING for start"
 being_name table Time = codes "WAITING for time"
 being_name table Period = codes "WAITING for period"
-being_name table (Semaphore s) = codes "WAITING for semaphore " ++ json_text (semaphore_name table s)
-being_name table (Buffer b) = codes "WAITING for buffer " ++ json_text (buffer_name table b)
-being_name table (Blackboard b) = codes "WAITING for blackboard " ++ json_text (blackboard_name table b)
-being_name table (EventFlag e) = codes "WAITING for event " ++ json_text (event_flag_name table e)
-being_name table (Mutex m) = codes "WAITING for mutex " ++ json_text (mutex_name table m)
+being_name table (Semaphore s) = named_text (codes "WAITING for semaphore ") (semaphore_name table s)
+being_name table (Buffer b) = named_text (codes "WAITING for buffer ") (buffer_name table b)
+being_name table (Blackboard b) = named_text (codes "WAITING for blackboard ") (blackboard_name table b)
+being_name table (EventFlag e) = named_text (codes "WAITING for event ") (event_flag_name table e)
+being_name table (Mutex m) = named_text (codes "WAITING for mutex ") (mutex_name table m)

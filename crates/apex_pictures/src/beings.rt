@@ -1,9 +1,8 @@
 //! What the slices of processes show in a trace: the state, and what a waiting process waits for.
 ghost use Rattle.std.specs.Prelude.{◌≡◌, ◌+◌, ◌≤◌, ◌++◌, length};
-ghost use Rattle.apex_json.specs.Strings.{json_text};
 ghost use Rattle.apex_types.specs.declared.limits.TheConstants.{MOST_NAME};
 ghost use Rattle.arrayvec.specs.ArrayVec.{array_vec_len};
-ghost use Rattle.apex_pictures.specs.Beings.{awaiting, being_name, being_of, is_begun, same_being};
+ghost use Rattle.apex_pictures.specs.Beings.{awaiting, being_name, being_of, is_begun, named_text, same_being};
 ghost use Rattle.apex_pictures.specs.declared.beings.TheConstants.{BEING_ROOM, FRONT};
 ghost use Rattle.apex_pictures.specs.declared.beings.Being.TheVariants as beings;
 ghost use Rattle.apex_pictures.specs.declared.pieces.TheConstants.{PIECE_ROOM};
@@ -142,7 +141,7 @@ fn add_named(piece: &mut Piece, front: &str, name: &[u8])
     requires front { length front.now ≤ FRONT }
     requires name { length name.now ≤ MOST_NAME }
     requires room { array_vec_len piece.old + BEING_ROOM ≤ PIECE_ROOM }
-    ensures text { piece.new.items ≡ piece.old.items ++ (front.now ++ json_text name.now) }
+    ensures text { piece.new.items ≡ piece.old.items ++ named_text front.now name.now }
     ensures short { array_vec_len piece.new ≤ array_vec_len piece.old + BEING_ROOM }
 {
     add(piece, front);
