@@ -10,7 +10,7 @@ use Rattle.apex_states.specs.Lists.{AllAre, IsFront}
 use Rattle.apex_states.proofs.Fronts.{at_old_place, IsFront-refl, IsFront-trans, IsFront-push}
 use Rattle.apex_explore.proofs.Levels.{Keeps-widen, IsChild-widen}
 
-slice_get-push : {X : Type 0} (xs : List X) (y : X) → slice_get (xs ++ y ∷ []) (length xs) ≡ Some y
+pub slice_get-push : {X : Type 0} (xs : List X) (y : X) → slice_get (xs ++ y ∷ []) (length xs) ≡ Some y
 slice_get-push [] y = refl
 slice_get-push (x ∷ xs) y = slice_get-push xs y
 
@@ -19,7 +19,7 @@ step_within-own : {K : Type 0} (choices : ℕ) (step : K → ℕ → Step K) (k 
 step_within-own choices step k choice within = rw (lt-ltb choice choices within)
 
 -- any other is refused
-step_within-past : {K : Type 0} (choices : ℕ) (step : K → ℕ → Step K) (k : K) (choice : ℕ) → choices ≤ choice → step_within choices step k choice ≡ refuses
+pub step_within-past : {K : Type 0} (choices : ℕ) (step : K → ℕ → Step K) (k : K) (choice : ℕ) → choices ≤ choice → step_within choices step k choice ≡ refuses
 step_within-past choices step k choice past = rw (le-ltb choice choices past)
 
 -- what a call of the system's own step answered is what the choice does

@@ -1,4 +1,5 @@
 pub mod Encoding
+pub mod Finding
 pub mod Growth
 pub mod Hitting
 pub mod Keeping

@@ -1,102 +1,26 @@
 -- What the parts of a level leave.
-use Rattle.std.proofs.Common.{◌≡◌, ℕ, zero, suc, ◌+◌, ◌<◌, ◌≤◌, Bool, true, false, List, [], ◌∷◌, ◌++◌, length, drop, Option, None, Some, refl, sym, ap, ◌∙◌, subst, inl, inr, arith, get_or, append_assoc, length-append}
+use Rattle.std.proofs.Common.{◌≡◌, ℕ, suc, ◌+◌, ◌-◌, ◌<◌, ◌≤◌, true, false, List, [], length, Option, None, Some, sym, ap, ◌∙◌, subst, inl, inr, arith, get_or}
 use Rattle.std.proofs.lemmas.Bool.{cases_lt}
 use Rattle.std.proofs.lemmas.Option.{same_Some, slice_get-get_or, slice_get_within}
-use Rattle.std.proofs.lemmas.List.{append-nil, drop_all}
 use Rattle.std.specs.List.{slice_get}
 use Rattle.std.specs.Prelude.{IfSome}
+use Rattle.apex_states.specs.Batches.{Copies}
 use Rattle.apex_states.specs.Finds.{AreKept, AreThere, Found, GoesOnWith, IsFind}
 use Rattle.apex_states.specs.Index.{IsKnown}
 use Rattle.apex_states.specs.Lists.{AllAre, IsFront}
 use Rattle.apex_states.specs.States.{Reached}
 use Rattle.apex_states.specs.declared.states.Origin.{Origin}
-use Rattle.apex_states.proofs.Fronts.{at_old_place, IsFront-refl, IsFront-trans}
-use Rattle.apex_states.proofs.Probing.{last_or_before}
-use Rattle.apex_explore.proofs.Growth.{IsLaid}
+use Rattle.apex_states.proofs.Fronts.{at_old_place}
 use Rattle.apex_explore.specs.declared.fronts.Front.{Front}
 use Rattle.apex_explore.specs.declared.parts.Expansion.{Expansion}
 use Rattle.apex_explore.specs.declared.search.Stop.{Stop}
 use Rattle.apex_explore.specs.declared.search.Stop.TheVariants as stops
-use Rattle.apex_explore.specs.Levels.{Grows, IsAmong, IsAt, IsChild, IsLevel, Keeps, Stops}
-use Rattle.apex_explore.specs.Parts.{AreExpansions, Ends, Fit, FitsOne, Follows, GrowsBy, IsExpansion, IsFilling, IsFoundBeside, IsPast, Stands}
+use Rattle.apex_explore.specs.Levels.{IsAt, IsChild, IsLevel, Keeps, Stops}
+use Rattle.apex_explore.specs.Parts.{Ends, Expanded, Fit, FitsOne, Follows, GrowsBy, IsExpansion, IsFrom, IsPast, Stands}
 use Rattle.apex_explore.specs.Systems.{Step, refuses, goes, hits}
-use Rattle.apex_explore.proofs.Levels.{IsAmong-widen, IsChild-widen, IsTraced-widen, Keeps-widen}
-
--- Two lists, one behind the other.
-
-pub get_front : {X : Type 0} (xs ys : List X) (place : ℕ) (x : X) → slice_get xs place ≡ Some x → slice_get (xs ++ ys) place ≡ Some x
-get_front [] ys place x is = cc
-get_front (y ∷ xs) ys zero x is = is
-get_front (y ∷ xs) ys (suc place) x is = get_front xs ys place x is
-
-pub get_behind : {X : Type 0} (xs ys : List X) (place : ℕ) → slice_get (xs ++ ys) (length xs + place) ≡ slice_get ys place
-get_behind [] ys place = let e : 0 + place ≡ place = omega arith in ap (slice_get ys) e
-get_behind (x ∷ xs) ys place =
-    let e : suc (length xs) + place ≡ suc (length xs + place) = omega arith in
-    ap (slice_get (x ∷ (xs ++ ys))) e ∙ get_behind xs ys place
-
-pub IsFront-append : {X : Type 0} (xs ys : List X) → IsFront xs (xs ++ ys)
-IsFront-append xs ys = record { same = λ place x is. get_front xs ys place x is; longer = omega (arith, length-append xs ys) }
-
-get_split : {X : Type 0} (xs ys : List X) (place : ℕ) (x : X) → length xs ≤ place → slice_get (xs ++ ys) place ≡ Some x
-    → (at : ℕ) × (place ≡ length xs + at) × (slice_get ys at ≡ Some x)
-get_split [] ys place x far is = (place, omega arith, is)
-get_split (y ∷ xs) ys zero x far is = absurd (omega arith)
-get_split (y ∷ xs) ys (suc place) x far is =
-    let deeper = get_split xs ys place x (omega arith) is in
-    (deeper.0, omega (arith, deeper.1), deeper.2)
+use Rattle.apex_explore.proofs.Levels.{IsAmong-widen, IsTraced-widen, Keeps-widen}
 
 module _ {K : Type 0} (step : K → ℕ → Step K) where
-  pub GrowsBy-start : (from limit : ℕ) (states : List K) (origins : List Origin) → length origins ≡ length states → GrowsBy step from from limit states origins states origins
-  GrowsBy-start from limit states origins paired = record {
-    states_front = IsFront-refl states;
-    origins_front = IsFront-refl origins;
-    paired = paired;
-    children = λ child above below. absurd (omega arith);
-    done = λ place k choice above below. absurd (omega arith);
-  }
-
-  -- nothing is found yet
-  pub GrowsBy-none : (from limit : ℕ) (states : List K) (origins : List Origin) → length origins ≡ length states → GrowsBy step from from limit states origins (states ++ []) (origins ++ [])
-  GrowsBy-none from limit states origins paired = rw (append-nil states, append-nil origins) (GrowsBy-start from limit states origins paired)
-
-  -- the children of one more state
-  pub GrowsBy-more : (from at limit place : ℕ) (states : List K) (origins : List Origin) (states' : List K) (origins' : List Origin) (states'' : List K) (origins'' : List Origin)
-      → from ≤ place → place < limit
-      → GrowsBy step from at limit states origins states' origins'
-      → Grows step place states' origins' states'' origins''
-      → GrowsBy step from at limit states origins states'' origins''
-  GrowsBy-more from at limit place states origins states' origins' states'' origins'' above below so_far grows = record {
-    states_front = IsFront-trans so_far.states_front grows.states_front;
-    origins_front = IsFront-trans so_far.origins_front grows.origins_front;
-    paired = grows.paired;
-    children = λ child far near.
-        elim (cases_lt child (length states')) [
-          | inl lt ↦
-              let was = so_far.children child far lt in
-              (was.0, was.1, was.2, IsChild-widen step was.0 child grows.states_front grows.origins_front was.3)
-          | inr ge ↦ (place, above, below, grows.children child ge near)
-        ];
-    done = λ other k choice far near is. Keeps-widen (step k choice) grows.states_front (so_far.done other k choice far near is);
-  }
-
-  -- one more state is done
-  pub GrowsBy-past : (from at limit : ℕ) (states : List K) (origins : List Origin) (states' : List K) (origins' : List Origin)
-      → GrowsBy step from at limit states origins states' origins'
-      → ((k : K) (choice : ℕ) → slice_get states at ≡ Some k → Keeps states' (step k choice))
-      → GrowsBy step from (at + 1) limit states origins states' origins'
-  GrowsBy-past from at limit states origins states' origins' so_far kept = record {
-    states_front = so_far.states_front;
-    origins_front = so_far.origins_front;
-    paired = so_far.paired;
-    children = so_far.children;
-    done = λ place k choice above below is.
-        elim (cases_lt place at) [
-          | inl lt ↦ so_far.done place k choice above lt is
-          | inr ge ↦ let e : place ≡ at = omega arith in kept k choice (rw e at is)
-        ];
-  }
-
   -- The states of a part are done.
   pub IsLevel-part : (first : K) (states : List K) (origins : List Origin) (states' : List K) (origins' : List Origin) (from at limit depth level_end : ℕ)
       → from ≤ at → at ≤ limit → limit ≤ level_end
@@ -137,94 +61,94 @@ module _ {K : Type 0} (step : K → ℕ → Step K) where
 
 -- What the states that are kept leave.
 
--- a state that is among others and those that were found is among those that have both
-among_kept : (base found states : List (List ℕ)) (n : List ℕ)
-    → IsFront base states
+-- a step that goes on to a state that was found goes on to one that is there
+Keeps-there : (found states : List (List ℕ)) (taken : Step (List ℕ))
     → ((place : ℕ) (k : List ℕ) → slice_get found place ≡ Some k → IsKnown states k)
-    → IsAmong (base ++ found) (length (base ++ found)) n → IsAmong states (length states) n
-among_kept base found states n front there among =
-    elim (cases_lt among.place (length base)) [
-      | inl lt ↦
-          let is = front.same among.place n (at_old_place base (base ++ found) among.place n (IsFront-append base found) lt among.is) in
-          record { place = among.place; within = slice_get_within states among.place n is; is = is }
-      | inr ge ↦
-          let split = get_split base found among.place n ge among.is in
-          let known = there split.0 n split.2 in
-          record { place = known.0; within = slice_get_within states known.0 n known.1; is = known.1 }
-    ]
+    → Keeps found taken → Keeps states taken
+Keeps-there found states refuses there kept = kept
+Keeps-there found states (goes n) there kept =
+    let known = there kept.place n kept.is in
+    record { place = known.0; within = slice_get_within states known.0 n known.1; is = known.1 }
+Keeps-there found states hits there kept = kept
 
-Keeps-kept : (base found states : List (List ℕ)) (taken : Step (List ℕ))
-    → IsFront base states
-    → ((place : ℕ) (k : List ℕ) → slice_get found place ≡ Some k → IsKnown states k)
-    → Keeps (base ++ found) taken → Keeps states taken
-Keeps-kept base found states refuses front there kept = kept
-Keeps-kept base found states (goes n) front there kept = among_kept base found states n front there kept
-Keeps-kept base found states hits front there kept = kept
+done_within : (step : List ℕ → ℕ → Step (List ℕ)) (states : List (List ℕ)) (done : ℕ) (hit : Option ℕ) → Ends step states done hit → done ≤ length states
+done_within step states done None ends = omega (arith, ends)
+done_within step states done (Some choice) ends = omega (arith, slice_get_within states done ends.0 ends.1)
 
-module _ (step : List ℕ → ℕ → Step (List ℕ)) (from end limit : ℕ) (base : Reached) (found : Found)
-    (grows : GrowsBy step from end limit base.states base.origins (base.states ++ found.states) (base.origins ++ found.origins))
-    (paired : length base.origins ≡ length base.states)
-    (within : limit ≤ length base.states) where
+module _ (step : List ℕ → ℕ → Step (List ℕ)) (is_state : List ℕ → Type 0) (from limit : ℕ) (old : Reached) (expansion : Expansion)
+    (expanded : Expanded step is_state old from limit expansion) where
+  abbrev copies : Copies
+  copies = expanded.copies
+
+  -- an expansion ends at most at its limit
+  end_within : (from ≤ expansion.end) × (expansion.end ≤ limit)
+  end_within =
+      let done = done_within step copies.states expanded.is.done expansion.hit expanded.is.ends in
+      (omega (arith, expanded.is.end, expanded.copied.first), omega (arith, done, expanded.is.end, expanded.copied.first, expanded.copied.whole))
+
   -- a state that was found is a child
-  pub found_child : (at : ℕ) (k : List ℕ) (origin : Origin) → IsFind found at k origin
+  found_child : (n : List ℕ) (origin : Origin) → IsFrom step copies n origin
       → (from ≤ origin.parent) × (origin.parent < limit)
-      × ((p : List ℕ) × (slice_get base.states origin.parent ≡ Some p) × (step p origin.choice ≡ goes k))
-  found_child at k origin find =
-      let short : at < length found.states = slice_get_within found.states at k find.state in
-      let far : length base.states ≤ length base.states + at = omega arith in
-      let near : length base.states + at < length (base.states ++ found.states) = omega (arith, short, length-append base.states found.states) in
-      let (parent, above, below, child) = grows.children (length base.states + at) far near in
-      let origin_is : slice_get (base.origins ++ found.origins) (length base.states + at) ≡ Some origin =
-      ap (λ n. slice_get (base.origins ++ found.origins) (n + at)) (sym paired) ∙ (get_behind base.origins found.origins at ∙ find.origin) in
-      let made : Origin = record { parent = parent; choice = child.choice } in
-      let o : made ≡ origin = same_Some made origin (sym child.origin ∙ origin_is) in
-      let to_is : slice_get (base.states ++ found.states) (length base.states + at) ≡ Some k = get_behind base.states found.states at ∙ find.state in
-      let to : child.to ≡ k = same_Some child.to k (sym child.to_is ∙ to_is) in
-      let was = at_old_place base.states (base.states ++ found.states) parent child.from (IsFront-append base.states found.states) (omega (arith, below, within)) child.from_is in
-      let Is : Origin → Type 0 = λ x. (from ≤ x.parent) × (x.parent < limit) × ((p : List ℕ) × (slice_get base.states x.parent ≡ Some p) × (step p x.choice ≡ goes k)) in
-      subst Is o (above, below, (child.from, was, child.leads ∙ ap goes to))
+      × ((p : List ℕ) × (slice_get old.states origin.parent ≡ Some p) × (step p origin.choice ≡ goes n))
+  found_child n origin is_from =
+      let short = slice_get_within copies.states is_from.at is_from.k is_from.is in
+      let place : origin.parent ≡ from + is_from.at = omega (arith, is_from.place, expanded.copied.first) in
+      let there = expanded.copied.same is_from.at is_from.k is_from.is in
+      (omega (arith, place), omega (arith, place, short, expanded.copied.whole), (is_from.k, ap (slice_get old.states) place ∙ there, is_from.leads))
 
-  pub finds_paired : length found.origins ≡ length found.states
-  finds_paired = omega (arith, grows.paired, paired, length-append base.origins found.origins, length-append base.states found.states)
+  -- what was found has an origin
+  origin_at : (at : ℕ) (n : List ℕ) → slice_get expansion.finds.states at ≡ Some n → (origin : Origin) × IsFind expansion.finds at n origin
+  origin_at at n is =
+      let nowhere : Origin = record { parent = 0; choice = 0 } in
+      let short = slice_get_within expansion.finds.states at n is in
+      let origin_is = slice_get-get_or expansion.finds.origins at nowhere (omega (arith, short, expanded.is.filling.paired)) in
+      (get_or expansion.finds.origins at nowhere, record { state = is; origin = origin_is })
 
-  pub find_parents : (old : Reached) → IsFront base.states old.states
-      → (place : ℕ) (origin : Origin) → slice_get found.origins place ≡ Some origin → origin.parent < length old.states
-  find_parents old front place origin is =
-      let short = slice_get_within found.origins place origin is in
-      let state = slice_get-get_or found.states place [] (omega (arith, short, finds_paired)) in
-      let child = found_child place (get_or found.states place []) origin (record { state = state; origin = is }) in
-      omega (arith, child.1, front.longer)
+  pub find_parents : (place : ℕ) (origin : Origin) → slice_get expansion.finds.origins place ≡ Some origin → origin.parent < length old.states
+  find_parents place origin is =
+      let short = slice_get_within expansion.finds.origins place origin is in
+      let n = get_or expansion.finds.states place [] in
+      let state = slice_get-get_or expansion.finds.states place [] (omega (arith, short, expanded.is.filling.paired)) in
+      let child = found_child n origin (expanded.is.finds.from place n origin (record { state = state; origin = is })) in
+      slice_get_within old.states origin.parent child.2.0 child.2.1
 
-module _ (step : List ℕ → ℕ → Step (List ℕ)) (from end limit : ℕ) (base : Reached) (found : Found) (old new : Reached)
-    (grows : GrowsBy step from end limit base.states base.origins (base.states ++ found.states) (base.origins ++ found.origins))
-    (base_front : IsFront base.states old.states)
-    (paired : length base.origins ≡ length base.states)
-    (ordered : end ≤ limit)
-    (within : limit ≤ length base.states)
-    (goes_on : GoesOnWith found old new) where
+  -- a state that is done is one of the copies
+  copy_at : (place : ℕ) (k : List ℕ) → from ≤ place → place < expansion.end → slice_get old.states place ≡ Some k
+      → (place - from < expanded.is.done) × (slice_get copies.states (place - from) ≡ Some k)
+  copy_at place k above below is =
+      let done = done_within step copies.states expanded.is.done expansion.hit expanded.is.ends in
+      let before : place - from < expanded.is.done = omega (arith, above, below, expanded.is.end, expanded.copied.first) in
+      let n = get_or copies.states (place - from) [] in
+      let copy = slice_get-get_or copies.states (place - from) [] (omega (arith, before, done)) in
+      let same : from + (place - from) ≡ place = omega arith in
+      let there : slice_get old.states place ≡ Some n = ap (slice_get old.states) (sym same) ∙ expanded.copied.same (place - from) n copy in
+      (before, copy ∙ ap Some (same_Some n k (sym there ∙ is)))
+
+module _ (step : List ℕ → ℕ → Step (List ℕ)) (is_state : List ℕ → Type 0) (from limit : ℕ) (old new : Reached) (expansion : Expansion)
+    (expanded : Expanded step is_state old from limit expansion)
+    (goes_on : GoesOnWith expansion.finds old new) where
   children_kept : (child : ℕ) → length old.states ≤ child → child < length new.states
       → (parent : ℕ) × (from ≤ parent) × (parent < limit) × IsChild step new.states new.origins parent child
   children_kept child far near =
       let (at, k, origin, find, state_is, origin_is) = goes_on.added child far near in
-      let (above, below, (p, there, leads)) = found_child step from end limit base found grows paired within at k origin find in
-      let now = goes_on.states_front.same origin.parent p (base_front.same origin.parent p there) in
+      let (above, below, (p, there, leads)) = found_child step is_state from limit old expansion expanded k origin (expanded.is.finds.from at k origin find) in
+      let now = goes_on.states_front.same origin.parent p there in
       (origin.parent, above, below, record { from = p; to = k; choice = origin.choice; origin = origin_is; from_is = now; to_is = state_is; leads = leads })
 
   -- each child of the states of the part is kept
-  pub GrowsBy-kept : AreThere found new true → GrowsBy step from end limit old.states old.origins new.states new.origins
+  GrowsBy-kept : AreThere expansion.finds new true → GrowsBy step from expansion.end limit old.states old.origins new.states new.origins
   GrowsBy-kept there = record {
     states_front = goes_on.states_front;
     origins_front = goes_on.origins_front;
     paired = goes_on.paired;
     children = children_kept;
     done = λ place k choice above below is.
-        let was = at_old_place base.states old.states place k base_front (omega arith) is in
-        let front = IsFront-trans base_front goes_on.states_front in
-        Keeps-kept base.states found.states new.states (step k choice) front there (grows.done place k choice above below was);
+        let copy = copy_at step is_state from limit old expansion expanded place k above below is in
+        Keeps-there expansion.finds.states new.states (step k choice) there (expanded.is.finds.whole (place - from) k choice copy.0 copy.1);
   }
 
   -- some children are kept
-  pub GrowsBy-some : GrowsBy step from from limit old.states old.origins new.states new.origins
+  GrowsBy-some : GrowsBy step from from limit old.states old.origins new.states new.origins
   GrowsBy-some = record {
     states_front = goes_on.states_front;
     origins_front = goes_on.origins_front;
@@ -243,50 +167,42 @@ AllAre-kept P found old new goes_on all finds place k is =
           subst P (same_Some n k (sym state_is ∙ is)) (finds at n find.state)
     ]
 
--- a part ends at most at its limit
-pub end_within : {K : Type 0} (step : K → ℕ → Step K) (states : List K) (limit end : ℕ) (hit : Option ℕ) → Ends step states limit end hit → end ≤ limit
-end_within step states limit end None ends = omega (arith, ends)
-end_within step states limit end (Some choice) ends = omega (arith, ends.0)
-
 -- What a part that is taken leaves.
 
 module _ (step : List ℕ → ℕ → Step (List ℕ)) (is_state : List ℕ → Type 0) (first : List ℕ) (old new : Reached) (front : Front) (expansion : Expansion)
     (level : IsAt step first old front)
     (fits : FitsOne step is_state old front expansion)
     (goes_on : GoesOnWith expansion.finds old new) where
-  ends_within : expansion.end ≤ fits.limit
-  ends_within = end_within step fits.base.states fits.limit expansion.end expansion.hit fits.is.ends
+  within : (front.at ≤ expansion.end) × (expansion.end ≤ fits.limit)
+  within = end_within step is_state front.at fits.limit old expansion fits.expanded
 
   -- there is no room for one
-  pub taken_some : IsAt step first new front
+  taken_some : IsAt step first new front
   taken_some = IsLevel-part step first old.states old.origins new.states new.origins front.at front.at fits.limit front.depth front.level_end
-      (omega arith) (omega (arith, fits.is.in_order, ends_within)) fits.level level
-      (GrowsBy-some step front.at expansion.end fits.limit fits.base expansion.finds old new fits.is.grows fits.base_front fits.paired ends_within fits.within goes_on)
+      (omega arith) (omega (arith, within.0, within.1)) fits.level level (GrowsBy-some step is_state front.at fits.limit old new expansion fits.expanded goes_on)
 
-  pub taken_over : AreThere expansion.finds new false → Stops step new front stops.Over
+  taken_over : AreThere expansion.finds new false → Stops step new front stops.Over
   taken_over (at, n, is, unknown, full) =
-      let grows = fits.is.grows in
-      let short = slice_get_within expansion.finds.states at n is in
-      let paired = finds_paired step front.at expansion.end fits.limit fits.base expansion.finds grows fits.paired fits.within in
-      let nowhere : Origin = record { parent = 0; choice = 0 } in
-      let origin_is = slice_get-get_or expansion.finds.origins at nowhere (omega (arith, short, paired)) in
-      let origin = get_or expansion.finds.origins at nowhere in
-      let (above, below, (p, there, leads)) = found_child step front.at expansion.end fits.limit fits.base expansion.finds grows fits.paired fits.within at n origin (record { state = is; origin = origin_is }) in
-      let now = goes_on.states_front.same origin.parent p (fits.base_front.same origin.parent p there) in
+      let (origin, find) = origin_at step is_state front.at fits.limit old expansion fits.expanded at n is in
+      let (above, below, (p, there, leads)) = found_child step is_state front.at fits.limit old expansion fits.expanded n origin (fits.expanded.is.finds.from at n origin find) in
+      let now = goes_on.states_front.same origin.parent p there in
       (origin.parent, above, omega (arith, below, fits.level), (p, n, origin.choice, now, leads, unknown, full))
 
   -- all are kept
-  pub taken_all : AreThere expansion.finds new true → IsAt step first new (record front { at = expansion.end })
+  taken_all : AreThere expansion.finds new true → IsAt step first new (record front { at = expansion.end })
   taken_all there = IsLevel-part step first old.states old.origins new.states new.origins front.at expansion.end fits.limit front.depth front.level_end
-      fits.is.in_order ends_within fits.level level
-      (GrowsBy-kept step front.at expansion.end fits.limit fits.base expansion.finds old new fits.is.grows fits.base_front fits.paired ends_within fits.within goes_on there)
+      within.0 within.1 fits.level level (GrowsBy-kept step is_state front.at fits.limit old new expansion fits.expanded goes_on there)
 
-  pub taken_struck : (choice : ℕ) → expansion.hit ≡ Some choice → Stops step new (record front { at = expansion.end }) (stops.Struck choice)
+  taken_struck : (choice : ℕ) → expansion.hit ≡ Some choice → Stops step new (record front { at = expansion.end }) (stops.Struck choice)
   taken_struck choice hit =
-      let Is : Option ℕ → Type 0 = λ h. Ends step fits.base.states fits.limit expansion.end h in
-      let (before, k, is, hit_is) = subst Is hit fits.is.ends in
-      let now = goes_on.states_front.same expansion.end k (fits.base_front.same expansion.end k is) in
-      (omega (arith, before, fits.level), (k, now, hit_is))
+      let copied = fits.expanded.copied in
+      let made = fits.expanded.is in
+      let Is : Option ℕ → Type 0 = λ h. Ends step fits.expanded.copies.states made.done h in
+      let (k, is, hit_is) = subst Is hit made.ends in
+      let short = slice_get_within fits.expanded.copies.states made.done k is in
+      let e : expansion.end ≡ front.at + made.done = omega (arith, made.end, copied.first) in
+      let there : slice_get old.states expansion.end ≡ Some k = ap (slice_get old.states) e ∙ copied.same made.done k is in
+      (omega (arith, e, short, copied.whole, fits.level), (k, goes_on.states_front.same expansion.end k there, hit_is))
 
 module _ (step : List ℕ → ℕ → Step (List ℕ)) (is_state : List ℕ → Type 0) (first : List ℕ) (word_count : ℕ) (old new : Reached) (front : Front) (expansion : Expansion)
     (stands : Stands step is_state first word_count old front)
@@ -297,7 +213,7 @@ module _ (step : List ℕ → ℕ → Step (List ℕ)) (is_state : List ℕ → 
     stands = record {
       level = level;
       width = goes_on.width ∙ stands.width;
-      states = AllAre-kept is_state expansion.finds old new goes_on stands.states fits.is.states;
+      states = AllAre-kept is_state expansion.finds old new goes_on stands.states fits.expanded.is.filling.states;
     };
     stops = stops;
     states_front = goes_on.states_front;
@@ -316,78 +232,56 @@ module _ (step : List ℕ → ℕ → Step (List ℕ)) (is_state : List ℕ → 
 
 -- Expansions, one after the other.
 
-pub drop_next : {X : Type 0} (xs : List X) (place : ℕ) (x : X) → slice_get xs place ≡ Some x → drop place xs ≡ x ∷ drop (suc place) xs
-drop_next [] place x is = cc
-drop_next (y ∷ xs) zero x is = ap (λ z. z ∷ xs) (same_Some y x is)
-drop_next (y ∷ xs) (suc place) x is = drop_next xs place x is
+-- an expansion of states that stay there
+pub Expanded-later : (step : List ℕ → ℕ → Step (List ℕ)) (is_state : List ℕ → Type 0) (from limit : ℕ) (old new : Reached) (expansion : Expansion)
+    → IsFront old.states new.states → new.width ≡ old.width → Expanded step is_state old from limit expansion → Expanded step is_state new from limit expansion
+Expanded-later step is_state from limit old new expansion front width expanded = record {
+  copies = expanded.copies;
+  copied = record {
+    first = expanded.copied.first;
+    width = expanded.copied.width ∙ sym width;
+    whole = expanded.copied.whole;
+    same = λ at k is. front.same (from + at) k (expanded.copied.same at k is);
+  };
+  is = subst (λ n. IsExpansion step n is_state expanded.copies expansion) (sym width) expanded.is;
+}
 
-module _ (step : List ℕ → ℕ → Step (List ℕ)) (is_state : List ℕ → Type 0) (reached : Reached) (front : Front) (limit : ℕ) (expansions : List Expansion) (place : ℕ) (expansion : Expansion)
-    (fit : Fit step is_state reached front limit (drop place expansions))
-    (is : slice_get expansions place ≡ Some expansion) where
-  next_are : AreExpansions step is_state fit.base front.at limit (expansion ∷ drop (suc place) expansions)
-  next_are =
-      let Are : List Expansion → Type 0 = λ es. AreExpansions step is_state fit.base front.at limit es in
-      subst Are (drop_next expansions place expansion is) fit.are
+-- the expansions from `place` on fit
+pub record IsTaking (step : List ℕ → ℕ → Step (List ℕ)) (is_state : List ℕ → Type 0) (reached : Reached) (front : Front) (limit : ℕ) (expansions : List Expansion) (place : ℕ) : Type 0 where
+  pub start : ℕ → ℕ
+  pub here : start place ≡ front.at
+  pub last : start (length expansions) ≡ limit
+  pub within : (at : ℕ) → start at ≤ limit
+  pub level : limit ≤ front.level_end
+  pub each : (at : ℕ) (expansion : Expansion) → slice_get expansions at ≡ Some expansion → Expanded step is_state reached (start at) (start (at + 1)) expansion
 
-  pub Fit-one : FitsOne step is_state reached front expansion
-  Fit-one = record {
-    base = fit.base;
-    limit = next_are.0;
-    base_front = fit.base_front;
-    paired = fit.paired;
-    width = fit.width;
-    is = next_are.2;
-    within = omega (arith, next_are.1, fit.within);
-    level = omega (arith, next_are.1, fit.level);
+pub IsTaking-start : (step : List ℕ → ℕ → Step (List ℕ)) (is_state : List ℕ → Type 0) (reached : Reached) (front : Front) (limit : ℕ) (expansions : List Expansion)
+    → Fit step is_state reached front limit expansions → IsTaking step is_state reached front limit expansions 0
+IsTaking-start step is_state reached front limit expansions fit = record { start = fit.start; here = fit.first; last = fit.last; within = fit.within; level = fit.level; each = fit.each }
+
+module _ (step : List ℕ → ℕ → Step (List ℕ)) (is_state : List ℕ → Type 0) (reached : Reached) (front : Front) (limit : ℕ) (expansions : List Expansion) (place : ℕ)
+    (taking : IsTaking step is_state reached front limit expansions place) where
+  pub IsTaking-one : (expansion : Expansion) → slice_get expansions place ≡ Some expansion → FitsOne step is_state reached front expansion
+  IsTaking-one expansion is = record {
+    limit = taking.start (place + 1);
+    expanded = subst (λ n. Expanded step is_state reached n (taking.start (place + 1)) expansion) taking.here (taking.each place expansion is);
+    level = omega (arith, taking.within (place + 1), taking.level);
   }
 
-  pub Fit-next : (new : Reached) (past : Front) → IsFront reached.states new.states → new.width ≡ reached.width → IsPast expansion front past
-      → Fit step is_state new past limit (drop (place + 1) expansions)
-  Fit-next new past goes_on width passed =
-      let Is : Option ℕ → Type 0 = λ h. Ends step fit.base.states next_are.0 expansion.end h in
-      let end : expansion.end ≡ next_are.0 = subst Is passed.none next_are.2.ends in
-      let at : next_are.0 ≡ past.at = sym end ∙ sym passed.at in
-      let From : ℕ → Type 0 = λ n. AreExpansions step is_state fit.base n limit (drop (suc place) expansions) in
-      let more : suc place ≡ place + 1 = omega arith in
-      let Are : ℕ → Type 0 = λ n. AreExpansions step is_state fit.base past.at limit (drop n expansions) in
+  pub IsTaking-next : (expansion : Expansion) (new : Reached) (past : Front) → slice_get expansions place ≡ Some expansion → IsFront reached.states new.states → new.width ≡ reached.width
+      → IsPast expansion.end front past → expansion.hit ≡ None → IsTaking step is_state new past limit expansions (place + 1)
+  IsTaking-next expansion new past is states_front width passed none =
+      let expanded = taking.each place expansion is in
+      let Is : Option ℕ → Type 0 = λ h. Ends step expanded.copies.states expanded.is.done h in
+      let all : expanded.is.done ≡ length expanded.copies.states = subst Is none expanded.is.ends in
       record {
-        base = fit.base;
-        base_front = IsFront-trans fit.base_front goes_on;
-        paired = fit.paired;
-        width = fit.width ∙ sym width;
-        are = subst Are more (subst From at next_are.3);
-        within = fit.within;
-        level = omega (arith, fit.level, passed.level);
+        start = taking.start;
+        here = omega (arith, passed.at, expanded.is.end, all, expanded.copied.first, expanded.copied.whole);
+        last = taking.last;
+        within = taking.within;
+        level = omega (arith, taking.level, passed.level);
+        each = λ at other there. Expanded-later step is_state (taking.start at) (taking.start (at + 1)) reached new other states_front width (taking.each at other there);
       }
 
--- after the last one the front is at the limit
-pub Fit-end : (step : List ℕ → ℕ → Step (List ℕ)) (is_state : List ℕ → Type 0) (reached : Reached) (front : Front) (limit : ℕ) (expansions : List Expansion) (place : ℕ)
-    → Fit step is_state reached front limit (drop place expansions) → length expansions ≤ place → front.at ≡ limit
-Fit-end step is_state reached front limit expansions place fit past =
-    let Are : List Expansion → Type 0 = λ es. AreExpansions step is_state fit.base front.at limit es in
-    subst Are (drop_all place expansions past) fit.are
-
--- What is found beside the states.
-
-pub laid_beside : (base : Reached) (old new : Found) (k : List ℕ) (origin : Origin) → IsFoundBeside base old k origin new
-    → IsLaid (base.states ++ old.states) (base.origins ++ old.origins) k origin (base.states ++ new.states) (base.origins ++ new.origins)
-laid_beside base old new k origin (inl (known, e)) =
-    let is = get_front base.states old.states known.0 k known.1 in
-    inl (record { place = known.0; within = slice_get_within (base.states ++ old.states) known.0 k is; is = is }, ap (λ (f : Found). base.states ++ f.states) e, ap (λ (f : Found). base.origins ++ f.origins) e)
-laid_beside base old new k origin (inr (inl (known, e))) =
-    let is = get_behind base.states old.states known.0 ∙ known.1 in
-    inl (record { place = length base.states + known.0; within = slice_get_within (base.states ++ old.states) (length base.states + known.0) k is; is = is }, ap (λ (f : Found). base.states ++ f.states) e, ap (λ (f : Found). base.origins ++ f.origins) e)
-laid_beside base old new k origin (inr (inr e)) =
-    inr (ap (λ (f : Found). base.states ++ f.states) e ∙ sym (append_assoc base.states old.states (k ∷ [])), ap (λ (f : Found). base.origins ++ f.origins) e ∙ sym (append_assoc base.origins old.origins (origin ∷ [])))
-
-pub IsFilling-beside : (P : List ℕ → Type 0) (base : Reached) (old new : Found) (k : List ℕ) (origin : Origin) → IsFilling P base old → P k → IsFoundBeside base old k origin new → IsFilling P base new
-IsFilling-beside P base old new k origin filling holds (inl (known, e)) = rw e filling
-IsFilling-beside P base old new k origin filling holds (inr (inl (known, e))) = rw e filling
-IsFilling-beside P base old new k origin filling holds (inr (inr e)) = rw e (record {
-  paired = omega (arith, length-append old.origins (origin ∷ []), length-append old.states (k ∷ []), filling.paired);
-  width = filling.width;
-  states = λ place n is. elim (last_or_before old.states k place n is) [
-    | inl before ↦ filling.states place n before
-    | inr last ↦ subst P last.1 holds
-  ];
-})
+  pub IsTaking-end : place ≡ length expansions → front.at ≡ limit
+  IsTaking-end end = sym taking.here ∙ (ap taking.start end ∙ taking.last)

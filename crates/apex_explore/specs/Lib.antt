@@ -1,4 +1,5 @@
 pub mod Answers
+pub mod Desks
 pub mod Encoding
 pub mod Levels
 pub mod Parts

@@ -3,6 +3,7 @@
 #![tactic(auto)]
 
 mod answers;
+mod desks;
 mod fronts;
 mod hits;
 mod parts;
@@ -14,8 +15,9 @@ mod taking;
 mod watches;
 
 pub use answers::Answer;
+pub use desks::Desk;
 pub use hits::is_hit;
-pub use parts::{Expansion, expand_part};
+pub use parts::Expansion;
 pub use search::{Stop, explore};
 pub use searches::{Places, Search};
 pub use systems::{System, Taken};

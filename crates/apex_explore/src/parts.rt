@@ -1,78 +1,48 @@
-//! A part of a level, whose states are expanded while others read the states, too.
-ghost use Rattle.std.specs.Prelude.{◌≡◌, ◌^◌, ◌<◌, ◌≤◌, length, IfOk};
-ghost use Rattle.apex_explore.specs.Parts.{Expands, FindsMore, IsExpansion, IsFilling, IsFoundBeside, IsPart};
+//! What the choices in some states of a level do, found beside the search.
+ghost use Rattle.std.specs.Prelude.{◌≡◌, ◌+◌, ◌^◌, ◌<◌, ◌≤◌, length, slice_get, Some, IfOk};
+ghost use Rattle.apex_explore.specs.Parts.{Expands, FindsMore, IsExpansion, IsFilling};
 ghost use Rattle.apex_explore.specs.Systems.{step_within};
-ghost use Rattle.apex_states.specs.Finds.{no_finds};
 ghost use Rattle.apex_states.specs.Lists.{AllAre};
-ghost use Rattle.apex_states.specs.States.{IsReader, IsReaderAt};
 
 use crate::systems::{System, Taken};
-use apex_states::{Finds, Origin, Reader, States};
+use apex_states::{Batch, Finds, Origin};
 use std::alloc::{AllocError, Global};
 
-/// What the choices in the states of a part of a level do.
+/// What the choices in the states of a batch do.
 #[derive(Drop)]
 pub struct Expansion {
-    /// The states to which they go on, in order, but for those that were there already.
+    /// The states to which they go on, in order.
     pub(crate) finds: Finds,
     /// The place after the last state that is done.
     pub(crate) end: usize,
-    /// The choice that hits in the state at that place. If there is one, the part ends there.
+    /// The choice that hits in the state at that place. If there is one, the expansion ends there.
     pub(crate) hit: Option<u32>,
 }
 
-/// Puts the state behind the others that were found, unless it is there already. Fails only for want
-/// of memory.
-fn find(
-    states: &States,
-    reader: &mut Reader,
-    finds: &mut Finds,
-    state: &[u64],
-    origin: Origin,
-) -> Result<(), AllocError>
-    requires reader { IsReaderAt states.now reader.old }
-    requires width { length state.now ≡ states.now.width }
-    requires finds { finds.old.width ≡ states.now.width }
-    ensures reader { IsReaderAt states.now reader.new }
-    ensures finds { IfOk result (λ _. IsFoundBeside states.now finds.old state.now origin finds.new) }
-{
-    if states.knows(reader, state) {
-        return Ok(());
-    }
-    finds.put(state, origin)
-}
-
-/// Makes each choice in the state at `place`, until one hits: the choice. Fails only for want of
-/// memory.
-fn expand_beside<S: System>(
+/// Makes each choice in the state, which is the one at `place`, until one hits: the choice. Fails only
+/// for want of memory.
+fn expand_state<S: System>(
     system: &S,
     workspace: &mut S::Workspace,
-    reader: &mut Reader,
-    state: &mut [u64],
+    state: &[u64],
     next: &mut [u64],
-    states: &States,
     place: usize,
     finds: &mut Finds,
 ) -> Result<Option<u32>, AllocError>
-    requires place { place < length states.now.states }
     requires fits { place < 2 ^ 32 }
-    requires paired { length states.now.origins ≡ length states.now.states }
-    requires width { states.now.width ≡ S.word_count system.now }
-    requires state { length state.old ≡ S.word_count system.now }
+    requires known { S.is_state system.now state.now }
+    requires state { length state.now ≡ S.word_count system.now }
     requires next { length next.old ≡ S.word_count system.now }
     requires workspace { S.is_workspace system.now workspace.old }
-    requires reader { IsReader states.now.width reader.old }
-    requires states { AllAre (S.is_state system.now) states.now.states }
-    requires finds { IsFilling (S.is_state system.now) states.now finds.old }
-    ensures grows { let step = step_within (S.choice_count system.now) (S.step system.now) in
-        IfOk result (λ _. FindsMore step place states.now finds.old finds.new) }
+    requires finds { IsFilling (S.word_count system.now) (S.is_state system.now) finds.old }
+    ensures more { let step = step_within (S.choice_count system.now) (S.step system.now) in
+        IfOk result (λ _. FindsMore step place state.now finds.old finds.new) }
     ensures outcome { let step = step_within (S.choice_count system.now) (S.step system.now) in
-        IfOk result (Expands step states.now finds.new place) }
+        IfOk result (Expands step state.now finds.new) }
     ensures workspace { IfOk result (λ _. S.is_workspace system.now workspace.new) }
-    ensures reader { IfOk result (λ _. IsReader states.now.width reader.new) }
-    ensures finds { IfOk result (λ _. IsFilling (S.is_state system.now) states.now finds.new) }
+    ensures finds { IfOk result (λ _.
+        IsFilling (S.word_count system.now) (S.is_state system.now) finds.new) }
 {
-    states.read(reader, place, state);
     system.enter(workspace, state);
     for choice in 0..system.choices() {
         match system.next(workspace, state, choice, next) {
@@ -83,39 +53,34 @@ fn expand_beside<S: System>(
                     parent: place as u32,
                     choice,
                 };
-                find(states, reader, finds, next, origin)?;
+                finds.put(next, origin)?;
             }
         }
     }
     Ok(None)
 }
 
-/// Makes each choice in the states from the place `from` on and before `limit`, until one hits.
-fn expand_places<S: System>(
+/// Makes each choice in the states of the batch, until one hits. Fails only for want of memory.
+pub(crate) fn expand_batch<S: System>(
+    alloc: Global,
     system: &S,
     workspace: &mut S::Workspace,
-    reader: &mut Reader,
-    state: &mut [u64],
     next: &mut [u64],
-    states: &States,
-    from: usize,
-    limit: usize,
-    mut finds: Finds,
+    batch: &Batch,
 ) -> Result<Expansion, AllocError>
-    requires part { IsPart (S.word_count system.now) (S.is_state system.now) states.now from limit }
-    requires fits { limit ≤ 2 ^ 32 }
-    requires state { length state.old ≡ S.word_count system.now }
+    requires width { batch.now.width ≡ S.word_count system.now }
+    requires fits { batch.now.first + length batch.now.states ≤ 2 ^ 32 }
+    requires states { AllAre (S.is_state system.now) batch.now.states }
     requires next { length next.old ≡ S.word_count system.now }
     requires workspace { S.is_workspace system.now workspace.old }
-    requires reader { IsReader states.now.width reader.old }
-    requires finds { finds ≡ no_finds states.now.width }
-    ensures { let step = step_within (S.choice_count system.now) (S.step system.now) in
-        IfOk result (IsExpansion step (S.is_state system.now) states.now from limit) }
+    ensures expansion { let step = step_within (S.choice_count system.now) (S.step system.now) in
+        IfOk result (IsExpansion step (S.word_count system.now) (S.is_state system.now) batch.now) }
+    ensures workspace { IfOk result (λ _. S.is_workspace system.now workspace.new) }
 {
-    for place in from..limit {
-        let hit = expand_beside(
-            system, workspace, reader, state, next, states, place, &mut finds,
-        )?;
+    let mut finds = Finds::new(alloc, system.width())?;
+    for at in 0..batch.len() {
+        let place = batch.first() + at;
+        let hit = expand_state(system, workspace, batch.state(at), next, place, &mut finds)?;
         match hit {
             Some(choice) => {
                 return Ok(Expansion {
@@ -129,40 +94,7 @@ fn expand_places<S: System>(
     }
     Ok(Expansion {
         finds,
-        end: limit,
+        end: batch.first() + batch.len(),
         hit: None,
     })
-}
-
-/// Makes each choice in the states from the place `from` on and before `limit`, until one hits. It
-/// takes a workspace of its own, so threads can expand parts at once. Fails only for want of memory.
-pub fn expand_part<S: System>(
-    alloc: Global,
-    system: &S,
-    states: &States,
-    from: usize,
-    limit: usize,
-) -> Result<Expansion, AllocError>
-    requires part { IsPart (S.word_count system.now) (S.is_state system.now) states.now from limit }
-    ensures { let step = step_within (S.choice_count system.now) (S.step system.now) in
-        IfOk result (IsExpansion step (S.is_state system.now) states.now from limit) }
-{
-    let _ = states.len();
-    let width = system.width();
-    let mut workspace = system.workspace(alloc)?;
-    let mut reader = states.reader(alloc)?;
-    let mut state = vec![in alloc; 0; width]?;
-    let mut next = vec![in alloc; 0; width]?;
-    let finds = Finds::new(alloc, width);
-    expand_places(
-        system,
-        &mut workspace,
-        &mut reader,
-        state.as_mut_slice(),
-        next.as_mut_slice(),
-        states,
-        from,
-        limit,
-        finds,
-    )
 }

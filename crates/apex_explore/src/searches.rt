@@ -1,12 +1,15 @@
 //! A search that can go on after an answer.
-ghost use Rattle.std.specs.Prelude.{◌≡◌, ◌≤◌, ◌+◌, length, IfOk, IfSome, None};
+ghost use Rattle.std.specs.Prelude.{◌≡◌, ◌≤◌, ◌+◌, ◌^◌, length, IfOk, IfSome, None};
 ghost use Rattle.apex_explore.specs.Answers.{Says};
 ghost use Rattle.apex_explore.specs.Levels.{Stops};
-ghost use Rattle.apex_explore.specs.Parts.{Fit};
-ghost use Rattle.apex_explore.specs.Searches.{AreLeft, IsOver, IsSearched, IsSearchedBefore, IsUnderWay, room_of};
+ghost use Rattle.apex_explore.specs.Parts.{Fit, IsPast};
+ghost use Rattle.apex_explore.specs.Searches.{AreLeft, IsOver, IsSameSearch, IsSearched, IsSearchedBefore, IsUnderWay, room_of};
 ghost use Rattle.apex_explore.specs.Systems.{step_within};
+ghost use Rattle.apex_states.specs.Batches.{IsCopied};
+ghost use Rattle.apex_states.specs.Lists.{IsFront};
 
 use crate::answers::Answer;
+use crate::desks::Desk;
 use crate::fronts::Front;
 use crate::parts::Expansion;
 use crate::paths::path_to;
@@ -87,13 +90,6 @@ impl<W: Drop> Search<W> {
         self.states.len()
     }
 
-    /// The states that were reached.
-    pub fn states(&self) -> &States
-        ensures { result.now ≡ self.now.states }
-    {
-        &self.states
-    }
-
     /// Shows how far the search has come. It has reached no more states than there is room for.
     pub fn show<V: Watch>(&self, watch: &mut V)
         ensures { length self.now.states.states ≤ room_of self.now }
@@ -158,8 +154,30 @@ impl<W: Drop> Search<W> {
         )
     }
 
-    /// Goes on by these expansions of parts, which begin at the state that is next and end at `limit`,
-    /// or until there is an answer: why it stops then. Fails only for want of memory.
+    /// Copies the states from the place `from` on and before `limit` to the desk, in place of those that
+    /// it has. Fails only for want of memory.
+    pub fn lay_out(
+        &mut self,
+        desk: &mut Desk<W>,
+        from: usize,
+        limit: usize,
+    ) -> Result<(), AllocError>
+        requires in_order { from ≤ limit }
+        requires within { limit ≤ length self.old.states.states }
+        requires width { desk.old.batch.width ≡ self.old.states.width }
+        requires state { length self.old.state.items ≡ self.old.states.width }
+        ensures copied { IfOk result (λ _. IsCopied self.old.states from limit desk.new.batch) }
+        ensures desk { IfOk result (λ _. desk.new ≡ record desk.old { batch = desk.new.batch }) }
+        ensures same { IfOk result (λ _. IsSameSearch self.old self.new) }
+        ensures fits { limit ≤ 2 ^ 32 }
+    {
+        let _ = self.states.len();
+        let state = self.state.as_mut_slice();
+        desk.batch.copy(&mut self.states, state, from, limit)
+    }
+
+    /// Goes on by these expansions of the states from the one that is next on and before `limit`, or
+    /// until there is an answer: why it stops then. Fails only for want of memory.
     pub fn take<S: System<Workspace = W>>(
         &mut self,
         alloc: Global,
@@ -179,7 +197,9 @@ impl<W: Drop> Search<W> {
             IfOk result (λ _. IsUnderWay step (S.start system.now) self.new) }
         ensures stop { let step = step_within (S.choice_count system.now) (S.step system.now) in
             IfOk result (λ stop. IfSome stop (Stops step self.new.states self.new.front)) }
-        ensures limit { IfOk result (λ stop. stop ≡ None → self.new.front.at ≡ limit) }
+        ensures past { IfOk result (λ stop. stop ≡ None
+            → IsPast limit self.old.front self.new.front) }
+        ensures states { IfOk result (λ _. IsFront self.old.states.states self.new.states.states) }
         ensures room { IfOk result (λ _. room_of self.new ≡ room_of self.old) }
     {
         let state = self.state.as_mut_slice();

@@ -10,8 +10,8 @@ use crate::systems::System;
 use apex_states::{States, keep_all};
 use std::alloc::{AllocError, Global};
 
-/// Keeps the states of an expansion of a part that begins at the front, and goes on to its end: why
-/// the search stops, if it does. Fails only for want of memory.
+/// Keeps the states of an expansion whose first state is at the front, and goes on to its end: why the
+/// search stops, if it does. Fails only for want of memory.
 fn take_part<S: System>(
     alloc: Global,
     system: &S,
@@ -29,7 +29,8 @@ fn take_part<S: System>(
     ensures follows { let step = step_within (S.choice_count system.now) (S.step system.now) in
         IfOk result (Follows step (S.is_state system.now) (S.start system.now)
         (S.word_count system.now) states.old states.new front.new) }
-    ensures end { IfOk result (λ stop. stop ≡ None → IsPast expansion.now front.old front.new) }
+    ensures past { IfOk result (λ stop. stop ≡ None
+        → IsPast expansion.now.end front.old front.new × (expansion.now.hit ≡ None)) }
 {
     let kept = keep_all(alloc, states, state, &expansion.finds)?;
     if !kept {
@@ -62,7 +63,7 @@ pub(crate) fn take_all<S: System>(
     ensures follows { let step = step_within (S.choice_count system.now) (S.step system.now) in
         IfOk result (Follows step (S.is_state system.now) (S.start system.now)
         (S.word_count system.now) states.old states.new front.new) }
-    ensures limit { IfOk result (λ stop. stop ≡ None → front.new.at ≡ limit) }
+    ensures past { IfOk result (λ stop. stop ≡ None → IsPast limit front.old front.new) }
 {
     for place in 0..expansions.len() {
         let taken = take_part(alloc, system, states, front, state, &expansions[place])?;

@@ -1,4 +1,6 @@
 -- Proofs of the canonical form of a paced situation and its words.
+pub mod BufferWords
+pub mod Copying
 pub mod Counting
 pub mod DeedsFit
 pub mod Exact

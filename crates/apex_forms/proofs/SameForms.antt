@@ -1,5 +1,5 @@
 -- Paced situations that are the same have the same canonical form.
-use Rattle.std.proofs.Common.{◌≡◌, ℕ, Option, ap, ◌∙◌}
+use Rattle.std.proofs.Common.{Option, ap, ◌∙◌}
 use Rattle.apex_alike.specs.Canonical.{canonical_roster}
 use Rattle.apex_choices.specs.Counts.{IsSamePaced}
 use Rattle.apex_forms.specs.Forms.{canonical_paced, kept_turns, kept_worked}

@@ -6,6 +6,7 @@ pub mod Objects
 pub mod Parts
 pub mod Stored
 pub mod Restored
+pub mod Copied
 pub mod Forms
 pub mod Reached
 pub mod Formed

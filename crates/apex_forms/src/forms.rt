@@ -1,17 +1,57 @@
 //! The canonical form of the processes: stamps by ranks, instants from the oldest release that
 //! matters on, and nothing that does not matter.
-ghost use Rattle.std.specs.Prelude.{◌≡◌, true, false, ◌+◌, ◌*◌, ◌<◌, ◌≤◌, ◌&&◌, length, pos};
+ghost use Rattle.std.specs.Prelude.{◌≡◌, true, false, ◌+◌, ◌*◌, ◌<◌, ◌≤◌, count_by, length, pos};
 ghost use Rattle.apex_types.specs.declared.limits.TheConstants.{MOST_PROCESSES};
 ghost use Rattle.apex_machine.specs.processes.Periods.{HasNoFutureRelease, awaits_first};
 ghost use Rattle.apex_machine.specs.processes.Roster.{record_at};
-ghost use Rattle.apex_machine.specs.processes.Running.{is_older};
-ghost use Rattle.apex_alike.specs.Canonical.{IsFit, age, canonical_record, canonical_roster, earlier, oldest_age, rank, recent, shares, vies};
-ghost use Rattle.apex_forms.specs.Forms.{AreRanks, form_of, with_form, with_forms};
-ghost use Rattle.apex_forms.specs.Terms.{Record};
+ghost use Rattle.apex_alike.specs.Canonical.{IsFit, age, canonical_record, canonical_roster, earlier, oldest_age, recent, shares};
+ghost use Rattle.apex_forms.specs.Forms.{AreRanks, AreRivals, form_of, is_older_rival, moments_of, rival_of, vie, with_form, with_forms, with_moments};
+ghost use Rattle.apex_forms.specs.Terms.{Rival};
 
 use apex_machine::{Queue, Record, Wait};
 use apex_store::{PlainStore, Store};
 use apex_types::{MOST_PROCESSES, Mode, ProcessId, Span};
+
+/// What a process has in its canonical form in place of its own: its stamp, and the instants in
+/// ticks of its due, its deadline and its last release.
+#[derive(Clone, Copy)]
+pub(crate) struct Moments {
+    pub(crate) since: i64,
+    pub(crate) due: Option<u64>,
+    pub(crate) deadline: Option<u64>,
+    pub(crate) release: u64,
+}
+
+/// A process among its rivals: its core if it is eligible, the queue in which it is, and its stamp.
+#[derive(Clone, Copy)]
+pub(crate) struct Rival {
+    core: Option<u8>,
+    queue: Option<Queue>,
+    since: i64,
+}
+
+/// A process that vies for nothing.
+const NO_RIVAL: Rival = Rival {
+    core: None,
+    queue: None,
+    since: 0,
+};
+
+/// The process among its rivals.
+fn rival_of(mode: Mode, fields: &Record) -> Rival
+    ensures { result ≡ rival_of mode fields.now }
+{
+    let core = if fields.is_eligible(mode) {
+        Some(fields.core.number())
+    } else {
+        None
+    };
+    Rival {
+        core,
+        queue: fields.queue(),
+        since: fields.since,
+    }
+}
 
 /// Both are in one queue.
 fn shares(one: Option<Queue>, other: Option<Queue>) -> bool
@@ -24,57 +64,68 @@ fn shares(one: Option<Queue>, other: Option<Queue>) -> bool
 }
 
 /// The two vie for one core or in one queue.
-fn vies(mode: Mode, one: &Record, other: &Record) -> bool
-    ensures { result ≡ vies mode one.now other.now }
+fn vie(one: &Rival, other: &Rival) -> bool
+    ensures { result ≡ vie one.now other.now }
 {
-    if one.is_eligible(mode) {
-        other.is_eligible(mode) && other.core == one.core
-    } else {
-        !other.is_eligible(mode) && shares(one.queue(), other.queue())
+    match (one.core, other.core) {
+        (Some(core), Some(other)) => other == core,
+        (None, None) => shares(one.queue, other.queue),
+        _ => false,
     }
 }
 
 /// The other vies with this one, and has an older stamp.
-fn is_older_rival(mode: Mode, one: &Record, other: &Record) -> bool
-    ensures { result ≡ (vies mode one.now other.now && is_older other.now one.now) }
+fn is_older_rival(one: &Rival, other: &Rival) -> bool
+    ensures { result ≡ is_older_rival one.now other.now }
 {
-    other.since < one.since && vies(mode, one, other)
+    vie(one, other) && other.since < one.since
 }
 
 /// The process vies for no core, and is in no queue: so it has no rivals.
-fn is_alone(mode: Mode, fields: &Record) -> bool
-    ensures { result ≡ true → (other : Record) → vies mode fields.now other ≡ false }
+fn is_alone(one: &Rival) -> bool
+    ensures { result ≡ true → (other : Rival) → vie one.now other ≡ false }
 {
-    !fields.is_eligible(mode) && fields.queue().is_none()
+    one.core.is_none() && one.queue.is_none()
 }
 
-/// The number of rivals with older stamps.
-fn rank(store: &PlainStore, process: ProcessId) -> u64
-    requires { process < length store.now.records }
-    ensures value { result ≡ rank store.now (record_at store.now process) }
-    ensures range { result ≤ MOST_PROCESSES }
+/// The number of these rivals that have older stamps.
+fn older_rivals(rivals: &[Rival], one: &Rival) -> u64
+    requires { length rivals.now ≤ MOST_PROCESSES }
+    ensures value { result ≡ count_by (is_older_rival one.now) rivals.now }
+    ensures range { result ≤ length rivals.now }
 {
-    // A copy, so that the loop need not read it again.
-    let (mode, fields) = (store.mode(), *store.record(process));
-    if is_alone(mode, &fields) {
+    if is_alone(one) {
         return 0;
     }
     let mut older = 0;
-    for place in 0..store.process_count() {
-        if is_older_rival(mode, &fields, store.record(ProcessId::at(place as u8))) {
+    for other in rivals {
+        if is_older_rival(one, other) {
             older += 1;
         }
     }
     older
 }
 
-/// The ranks of all processes.
+/// Puts each process among its rivals.
+fn put_rivals(store: &PlainStore, rivals: &mut [Rival; MOST_PROCESSES])
+    ensures { AreRivals store.now rivals.new (length store.now.records) }
+{
+    let mode = store.mode();
+    for place in 0..store.process_count() {
+        rivals[place] = rival_of(mode, store.record(ProcessId::at(place as u8)));
+    }
+}
+
+/// The ranks of all processes: of each one the number of rivals with older stamps.
 pub(crate) fn ranks(store: &PlainStore) -> [u64; MOST_PROCESSES]
     ensures { AreRanks store.now result }
 {
+    let mut rivals = [NO_RIVAL; MOST_PROCESSES];
+    put_rivals(store, &mut rivals);
     let mut ranks = [0; MOST_PROCESSES];
-    for place in 0..store.process_count() {
-        ranks[place] = rank(store, ProcessId::at(place as u8));
+    let count = store.process_count();
+    for place in 0..count {
+        ranks[place] = older_rivals(&rivals[..count], &rivals[place]);
     }
     ranks
 }
@@ -157,20 +208,36 @@ fn next_stamp(count: usize) -> i64
     (1 + (count as u64 + 1) * count as u64) as i64
 }
 
-/// The canonical record of a process that has this one, at this stamp and time in ticks.
+/// What the canonical record of a process has in place of its own, at this stamp and time in ticks.
 #[inline(always)]
+fn moments_of(store: &PlainStore, fields: &Record, since: i64, now: u64) -> Moments
+    requires release { fields.now.release ≤ store.now.now }
+    requires age { age store.now.now fields.now ≤ now }
+    requires now { now ≤ store.now.now }
+    ensures { result ≡ moments_of store.now since now fields.now }
+{
+    let ticks = store.now() - now;
+    Moments {
+        since,
+        due: earlier(ticks, fields.due),
+        deadline: earlier(ticks, fields.deadline),
+        release: now - age(store.now(), fields),
+    }
+}
+
+/// The canonical record of a process that has this one, at this stamp and time in ticks.
 fn form_of(store: &PlainStore, fields: &Record, since: i64, now: u64) -> Record
     requires release { fields.now.release ≤ store.now.now }
     requires age { age store.now.now fields.now ≤ now }
     requires now { now ≤ store.now.now }
     ensures { result ≡ form_of store.now since now fields.now }
 {
-    let ticks = store.now() - now;
+    let moments = moments_of(store, fields, since, now);
     Record {
-        since,
-        due: earlier(ticks, fields.due),
-        deadline: earlier(ticks, fields.deadline),
-        release: now - age(store.now(), fields),
+        since: moments.since,
+        due: moments.due,
+        deadline: moments.deadline,
+        release: moments.release,
         inbox: None,
         ..*fields
     }
@@ -202,23 +269,26 @@ fn put_forms(store: &mut PlainStore, ranks: &[u64; MOST_PROCESSES], now: u64)
     }
 }
 
-/// The canonical record of the process at this place, at this time in ticks.
+/// What the canonical record of the process at this place, which has this record, has in place of
+/// its own, at this time in ticks.
 #[inline(always)]
-pub(crate) fn canonical_record(
+pub(crate) fn canonical_moments(
     store: &PlainStore,
+    fields: &Record,
     ranks: &[u64; MOST_PROCESSES],
     now: u64,
     place: usize,
-) -> Record
+) -> Moments
     requires known { place < length store.now.records }
+    requires fields { fields.now ≡ record_at store.now place }
     requires fit { IsFit store.now }
     requires ranks { AreRanks store.now ranks.now }
     requires now { now ≡ oldest_age store.now.now store.now.records }
-    ensures { result ≡ canonical_record store.now now place (record_at store.now place) }
+    ensures { with_moments fields.now result ≡ canonical_record store.now now place fields.now }
 {
     let count = store.process_count();
     let since = stamp(ranks[place], count, place);
-    form_of(store, store.record(ProcessId::at(place as u8)), since, now)
+    moments_of(store, fields, since, now)
 }
 
 /// The processes have their canonical form from now on.

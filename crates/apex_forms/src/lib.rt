@@ -4,6 +4,7 @@
 
 mod canonical;
 mod codes;
+mod copied;
 mod forms;
 mod laws;
 mod objects;
@@ -15,7 +16,8 @@ mod stored;
 mod usual;
 
 pub use canonical::canonical_form;
+pub use copied::restore_known;
 pub use laws::{forms_stay_in_bounds, same_forms_have_the_same_words, words_are_exact};
 pub use premises::{forms_are_ready, forms_reach, parts_are_kept, turns_are_few};
-pub use restored::{restore, restore_known};
+pub use restored::restore;
 pub use stored::{put_words, word_count};

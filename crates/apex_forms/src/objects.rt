@@ -1,5 +1,5 @@
 //! The words of the objects.
-ghost use Rattle.std.specs.Prelude.{◌≡◌, false, length, slice_get};
+ghost use Rattle.std.specs.Prelude.{◌≡◌, false, length};
 ghost use Rattle.apex_types.specs.declared.limits.TheConstants.{MOST_MESSAGES};
 ghost use Rattle.apex_forms.specs.declared.objects.TheConstants.{BLACKBOARD_WORDS, BUFFER_WORDS, EVENT_FLAG_WORDS, MUTEX_WORDS, SEMAPHORE_WORDS};
 ghost use Rattle.apex_forms.specs.Objects.{blackboard_from, blackboard_words, buffer_from, buffer_words, event_flag_from, event_flag_words, messages_in, mutex_from, mutex_words, process_from, semaphore_from, semaphore_words};
@@ -46,25 +46,19 @@ fn restore_semaphore(semaphore: &mut Semaphore, words: &[u64])
     semaphore.restore(is_set(words[0]), (words[1] % (1 << 16)) as u16);
 }
 
-/// The message at a place, if there is one.
-fn message_at(messages: &[Message], place: usize) -> Option<Message>
-    ensures { result ≡ slice_get messages.now place }
+/// Puts the words of the buffer into these.
+fn put_buffer(buffer: &Buffer, words: &mut [u64])
+    requires { length words.old ≡ BUFFER_WORDS }
+    ensures { words.new ≡ buffer_words buffer.now }
 {
-    match messages.get(place) {
-        Some(message) => Some(*message),
-        None => None,
-    }
-}
-
-fn buffer_words(buffer: &Buffer) -> [u64; BUFFER_WORDS]
-    ensures { result ≡ buffer_words buffer.now }
-{
-    let mut words = [0; BUFFER_WORDS];
     words[0] = flag_word(buffer.is_created());
-    for place in 0..MOST_MESSAGES {
-        words[1 + place] = message_word(message_at(buffer.messages(), place));
+    let messages = buffer.messages();
+    for place in 0..messages.len() {
+        words[1 + place] = message_word(Some(messages[place]));
     }
-    words
+    for behind in messages.len()..MOST_MESSAGES {
+        words[1 + behind] = 0;
+    }
 }
 
 /// The messages of these words.
@@ -170,7 +164,9 @@ impl Stored for Buffer {
     const WORDS: usize = BUFFER_WORDS;
 
     fn put(&self, words: &mut [u64], at: usize) -> usize {
-        put(words, at, &buffer_words(self))
+        let end = at + BUFFER_WORDS;
+        put_buffer(self, &mut words[at..end]);
+        end
     }
 
     fn restore(&mut self, words: &[u64]) {

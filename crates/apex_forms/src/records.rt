@@ -2,11 +2,13 @@
 ghost use Rattle.std.specs.Prelude.{◌≡◌, ◌<◌, ◌^◌, length, slice_index};
 ghost use Rattle.apex_types.specs.declared.limits.TheConstants.{MOST_OWNED};
 ghost use Rattle.apex_forms.specs.declared.records.TheConstants.{RECORD_WORDS};
+ghost use Rattle.apex_forms.specs.Forms.{with_moments};
 ghost use Rattle.apex_forms.specs.Records.{FitsRecord, IsCoreWord, is_created_in, owned_in, record_from, record_words};
 
 use crate::codes::{
     WaitCode, holding_in, holding_word, instant_in, instant_word, suspender_byte, suspender_in,
 };
+use crate::forms::Moments;
 use apex_machine::{Attributes, Holdings, Record};
 use apex_types::CoreId;
 
@@ -16,13 +18,12 @@ pub(crate) const RECORD_WORDS: usize = 11;
 /// The word before those of the mutexes that a process owns.
 const BEFORE_OWNED: usize = 7;
 
-/// The words of a process: a word of bytes and one of marks, then those of its wait, its stamp, its
-/// due, its deadline, its release, and the mutexes that it owns.
-// Inlined, so that a record is not put together before its words are.
-#[inline(always)]
-pub(crate) fn record_words(created: bool, fields: &Record) -> [u64; RECORD_WORDS]
-    requires { FitsRecord fields.now }
-    ensures { result ≡ record_words created fields.now }
+/// The words of a process that has these moments in place of its own: a word of bytes and one of
+/// marks, then those of its wait, its stamp, its due, its deadline, its release, and the mutexes that
+/// it owns.
+pub(crate) fn record_words(created: bool, fields: &Record, moments: Moments) -> [u64; RECORD_WORDS]
+    requires { FitsRecord (with_moments fields.now moments) }
+    ensures { result ≡ record_words created (with_moments fields.now moments) }
 {
     let wait = WaitCode::of(&fields.wait);
     let bytes = [
@@ -37,18 +38,18 @@ pub(crate) fn record_words(created: bool, fields: &Record) -> [u64; RECORD_WORDS
     ];
     let (created, due, deadline) = (
         u8::from(created),
-        u8::from(fields.due.is_some()),
-        u8::from(fields.deadline.is_some()),
+        u8::from(moments.due.is_some()),
+        u8::from(moments.deadline.is_some()),
     );
     let owned = fields.owned.as_slice();
     [
         u64::from_le_bytes(bytes),
         u64::from_le_bytes([created, due, deadline, 0, 0, 0, 0, 0]),
         wait.word,
-        fields.since as u64,
-        instant_word(fields.due),
-        instant_word(fields.deadline),
-        fields.release,
+        moments.since as u64,
+        instant_word(moments.due),
+        instant_word(moments.deadline),
+        moments.release,
         holding_word(owned.get(0).copied()),
         holding_word(owned.get(1).copied()),
         holding_word(owned.get(2).copied()),

@@ -45,7 +45,7 @@ fn open_in(words: &[u64]) -> Option<OpenWork>
 }
 
 /// The open work of each core.
-fn works_in(cores: u8, words: &[u64]) -> Works
+pub(crate) fn works_in(cores: u8, words: &[u64]) -> Works
     requires few { cores ≤ MOST_CORES }
     requires words { AreCoreWords cores words.now }
     ensures { (core : ℕ) → work_at result core ≡ works_in cores words.now core }
@@ -59,7 +59,7 @@ fn works_in(cores: u8, words: &[u64]) -> Works
 }
 
 /// What the pace counts of each core.
-fn counts_in(cores: u8, words: &[u64]) -> Counts
+pub(crate) fn counts_in(cores: u8, words: &[u64]) -> Counts
     requires few { cores ≤ MOST_CORES }
     requires words { AreCoreWords cores words.now }
     ensures turns { (core : ℕ) → count_at result.turns core ≡ turns_in cores words.now core }
@@ -147,54 +147,12 @@ fn restore_objects(objects: &mut Objects, blank: ProcessObject, words: &[u64], f
 
 /// The first stamp behind those of a canonical form of this many processes.
 #[tactic(auto, using(crate::proofs::Restoring::few_stamps))]
-fn first_stamp(many: usize) -> i64
+pub(crate) fn first_stamp(many: usize) -> i64
     requires { many ≤ MOST_PROCESSES }
     ensures { result ≡ pos (1 + (many + 1) * many) }
 {
     let many = many as u32;
     i64::from(1 + (many + 1) * many)
-}
-
-/// The processes have the records of these others from now on.
-fn copy_records(store: &mut PlainStore, others: &PlainStore)
-    requires { length store.old.records ≡ length others.now.records }
-    ensures { store.new ≡ record store.old { records = others.now.records } }
-{
-    for place in 0..others.process_count() {
-        let process = ProcessId::at(place as u8);
-        store.put(process, *others.record(process));
-    }
-}
-
-/// The situation of these words and what the pace counts there, in the memory of this one;
-/// `known` is that situation, and `blank` is a process that isn't created.
-pub fn restore_known(
-    paced: PacedSituation,
-    table: &Table,
-    known: &PacedSituation,
-    blank: ProcessObject,
-    words: &[u64],
-) -> PacedSituation
-    requires blank { blank.created ≡ false }
-    requires table { IsOfTable table.now (paced_in paced).situation }
-    requires words { IsStored table.now words.now }
-    requires known { IsSamePaced (paced_in known.now) (paced_from table.now words.now) }
-    ensures { IsSamePaced (paced_in result) (paced_from table.now words.now) }
-{
-    table.lawful();
-    let PacedSituation { situation, .. } = paced;
-    let (mut store, mut objects, _, _) = situation.into_parts();
-    let cores = table.cores();
-    let from = HEAD_WORDS + usize::from(cores) * CORE_WORDS;
-    let young = first_stamp(store.process_count());
-    copy_records(&mut store, known.situation.store());
-    store.set_clock(mode_in(words[0]), words[1], young, 0);
-    restore_objects(&mut objects, blank, words, from);
-    let works = works_in(cores, words);
-    PacedSituation {
-        situation: Situation::new(store, objects, works, words[2] as usize),
-        counts: counts_in(cores, words),
-    }
 }
 
 /// The situation of these words and what the pace counts there, in the memory of this one;

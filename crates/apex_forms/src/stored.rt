@@ -8,7 +8,7 @@ ghost use Rattle.apex_forms.specs.Stored.{FitsWords, core_words, cores_words, co
 
 use crate::canonical::{kept_turns, kept_worked};
 use crate::codes::mode_word;
-use crate::forms::{canonical_record, oldest_age, ranks};
+use crate::forms::{canonical_moments, oldest_age, ranks};
 use crate::objects::{
     BLACKBOARD_WORDS, BUFFER_WORDS, EVENT_FLAG_WORDS, MUTEX_WORDS, SEMAPHORE_WORDS,
 };
@@ -98,8 +98,9 @@ fn put_records(
     let mut end = at;
     for place in 0..store.process_count() {
         let created = processes[place].is_created();
-        let form = canonical_record(store, ranks, now, place);
-        end = put(words, end, &record_words(created, &form));
+        let fields = store.record(ProcessId::at(place as u8));
+        let moments = canonical_moments(store, fields, ranks, now, place);
+        end = put(words, end, &record_words(created, fields, moments));
     }
     end
 }

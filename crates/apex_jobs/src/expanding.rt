@@ -1,69 +1,67 @@
-//! Parts of a level that threads expand at once.
-ghost use Rattle.std.specs.Thread.{IsSend, IsSync};
-ghost use Rattle.std.specs.Prelude.{◌<◌, ◌≤◌, IfOk};
-ghost use Rattle.apex_explore.specs.Parts.{AreExpansions, IsPart};
+//! Threads expand the states on desks.
+ghost use Rattle.std.specs.Prelude.{◌≡◌, ℕ, ◌<◌, length, IfOk};
+ghost use Rattle.apex_explore.specs.Desks.{IsDesk, IsMade, IsReady};
 ghost use Rattle.apex_explore.specs.Systems.{step_within};
+ghost use Rattle.apex_jobs.specs.Rounds.{AreExpansions, AreGathered, AreLaidOut};
+ghost use Rattle.apex_states.specs.Batches.{Copies};
+ghost use Rattle.apex_states.specs.Lists.{AllAre};
+ghost use Rattle.apex_states.specs.States.{Reached};
 
-use apex_explore::{Expansion, System, expand_part};
-use apex_states::States;
+use apex_explore::{Desk, Expansion, System};
 use std::alloc::{AllocError, Global};
 use std::marker::{Send, Sync};
-use std::thread::{Threads, join};
+use std::thread::{Threads, for_each_mut};
 
-/// Expands the states from the place `from` on and before `limit`, in `parts` parts of about one size,
-/// each in a thread of its own if one can be made. Fails only for want of memory.
-#[cycle(parts)]
-#[tactic(auto, using(crate::proofs::Splitting::front_part, crate::proofs::Splitting::back_part, crate::proofs::Splitting::one_expansion))]
-pub(crate) fn expand_parts<R: Threads + Sync, W: Drop + Send, S: System<Workspace = W> + Sync>(
+/// Takes what was made at each desk. Fails only for want of memory.
+fn gather<W: Drop, S: System<Workspace = W>>(
+    alloc: Global,
+    system: &S,
+    desks: &mut [Desk<W>],
+) -> Result<Vec<Expansion>, AllocError>
+    requires { let step = step_within (S.choice_count system.now) (S.step system.now) in
+        AllAre (λ desk. (copies : Copies) × IsMade step (S.word_count system.now)
+        (S.is_state system.now) (S.is_workspace system.now) copies desk) desks.old }
+    ensures gathered { IfOk result (λ expansions. AreGathered desks.old expansions.items) }
+    ensures desks { IfOk result (λ _.
+        AllAre (IsDesk (S.word_count system.now) (S.is_workspace system.now)) desks.new) }
+{
+    let mut expansions = Vec::new(alloc);
+    for place in 0..desks.len() {
+        let Some(made) = desks[place].take() else {
+            unreachable!()
+        };
+        expansions.push(made?)?;
+    }
+    Ok(expansions)
+}
+
+/// Makes each choice in the states of each desk, until one hits there. A thread works at each desk, if one
+/// can be made for it. Fails only for want of memory.
+pub(crate) fn expand_all<R: Threads + Sync, W: Drop + Send, S: System<Workspace = W> + Sync>(
     rt: &R,
     alloc: Global,
     system: &S,
-    states: &States,
-    from: usize,
-    limit: usize,
-    parts: usize,
+    desks: &mut [Desk<W>],
 ) -> Result<Vec<Expansion>, AllocError>
-    requires part { IsPart (S.word_count system.now) (S.is_state system.now) states.now from limit }
-    ensures { let step = step_within (S.choice_count system.now) (S.step system.now) in
-        IfOk result (λ expansions.
-        AreExpansions step (S.is_state system.now) states.now from limit expansions.items) }
+    requires some { 0 < length desks.old }
+    requires desks { AllAre (IsDesk (S.word_count system.now) (S.is_workspace system.now)) desks.old }
+    requires ready { AllAre (IsReady (S.is_state system.now)) desks.old }
+    ensures expansions { let step = step_within (S.choice_count system.now) (S.step system.now) in
+        IfOk result (λ expansions. (reached : Reached) (from limit : ℕ)
+        → reached.width ≡ S.word_count system.now
+        → AreLaidOut (S.is_state system.now) reached from limit desks.old
+        → AreExpansions step (S.is_state system.now) reached from limit expansions.items) }
+    ensures desks { IfOk result (λ _.
+        AllAre (IsDesk (S.word_count system.now) (S.is_workspace system.now)) desks.new) }
 {
-    if parts < 2 {
-        let mut one = Vec::new(alloc);
-        one.push(expand_part(alloc, system, states, from, limit)?)?;
-        return Ok(one);
-    }
-    let half = parts / 2;
-    let rest = parts - half;
-    let middle = middle_of(from, limit, half, parts);
-    let front = move || -> Result<Vec<Expansion>, AllocError>
-        requires { IsSync R.row × IsSync S.row × IsSend W.row
-            × IsPart (S.word_count system.now) (S.is_state system.now) states.now from middle }
+    let count = desks.len();
+    let expand = |_place: usize, desk: &mut Desk<W>|
+        requires { IsDesk (S.word_count system.now) (S.is_workspace system.now) desk.now
+            × IsReady (S.is_state system.now) desk.now }
         ensures { let step = step_within (S.choice_count system.entry.now) (S.step system.entry.now) in
-            IfOk result (λ expansions.
-            AreExpansions step (S.is_state system.entry.now) states.entry.now from middle expansions.items) }
-    { expand_parts(rt, alloc, system, states, from, middle, half) };
-    let back = move || -> Result<Vec<Expansion>, AllocError>
-        requires { IsSync R.row × IsSync S.row × IsSend W.row
-            × IsPart (S.word_count system.now) (S.is_state system.now) states.now middle limit }
-        ensures { let step = step_within (S.choice_count system.entry.now) (S.step system.entry.now) in
-            IfOk result (λ expansions.
-            AreExpansions step (S.is_state system.entry.now) states.entry.now middle limit expansions.items) }
-    { expand_parts(rt, alloc, system, states, middle, limit, rest) };
-    let (one, other) = join(rt, front, back);
-    let mut all = one?;
-    let mut more = other?;
-    all.append(&mut more)?;
-    Ok(all)
-}
-
-/// A place between these, after about as many of the parts.
-fn middle_of(from: usize, limit: usize, half: usize, parts: usize) -> usize
-    requires in_order { from ≤ limit }
-    requires parts { 0 < parts }
-    ensures front { from ≤ result }
-    ensures back { result ≤ limit }
-{
-    let size = (limit - from) / parts;
-    limit.min(from.saturating_add(size.saturating_mul(half)))
+            IsMade step (S.word_count system.entry.now) (S.is_state system.entry.now)
+            (S.is_workspace system.entry.now) desk.entry.now.batch desk.exit.now }
+    { desk.expand(alloc, system) };
+    for_each_mut(rt, desks, count, &expand);
+    gather(alloc, system, desks)
 }

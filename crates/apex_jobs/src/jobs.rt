@@ -1,23 +1,30 @@
 //! A search by several threads.
-ghost use Rattle.std.specs.Prelude.{◌≡◌, ◌<◌, ◌≤◌, IfOk, IfSome, None};
+ghost use Rattle.std.specs.Prelude.{◌≡◌, ◌<◌, ◌≤◌, length, IfOk, IfSome, None};
 ghost use Rattle.apex_explore.specs.Answers.{Says};
+ghost use Rattle.apex_explore.specs.Desks.{IsDesk};
 ghost use Rattle.apex_explore.specs.Levels.{Stops};
-ghost use Rattle.apex_explore.specs.Searches.{IsOver, IsSearched, IsSearchedBefore, IsUnderWay, room_of};
+ghost use Rattle.apex_explore.specs.Searches.{AreLeft, IsOver, IsSearched, IsSearchedBefore, IsUnderWay, room_of};
 ghost use Rattle.apex_explore.specs.Systems.{step_within};
+ghost use Rattle.apex_states.specs.Lists.{AllAre};
 
-use crate::expanding::expand_parts;
-use apex_explore::{Answer, Places, Search, Stop, System, Watch};
+use crate::expanding::expand_all;
+use crate::laying::lay_out_all;
+use crate::taking::take_and_expand;
+use apex_explore::{Answer, Desk, Places, Search, Stop, System, Watch};
 use std::alloc::{AllocError, Global};
 use std::marker::{Send, Sync};
 use std::thread::Threads;
 
-/// A part has at most this many states.
-const MOST_STATES: usize = 4096;
+/// A desk has at most this many states at once.
+const MOST_STATES: usize = 512;
 
-/// A part of fewer states than this takes less time than a thread.
-const LEAST_STATES: usize = 256;
+/// To expand fewer states than this takes less time than to begin a thread.
+const LEAST_STATES: usize = 32;
 
-/// The threads among which a level of a search is split.
+/// A level is cut into this many rounds if that gives each desk neither too many states nor too few.
+const ROUNDS: usize = 8;
+
+/// The threads among which the states of a level are split.
 #[derive(Clone, Copy)]
 pub struct Jobs<'r, R> {
     rt: &'r R,
@@ -25,13 +32,15 @@ pub struct Jobs<'r, R> {
 }
 
 impl<'r, R: Threads + Sync> Jobs<'r, R> {
-    /// As many threads at once as `jobs`, and one if that is 0.
+    /// `jobs` threads that expand states, beside the caller, which keeps those that they find. The caller
+    /// does both if `jobs` is 0 or 1.
     pub fn new(rt: &'r R, jobs: u32) -> Jobs<'r, R> {
         Jobs { rt, jobs }
     }
 
     /// Searches the system's states, nearest first, for a choice that hits, as
-    /// `apex_explore::explore` does. Each thread takes a workspace, too.
+    /// `apex_explore::explore` does. Each thread has a workspace, too, and what threads find takes memory
+    /// until it is kept.
     pub fn explore<W: Drop + Send, S: System<Workspace = W> + Sync, V: Watch>(
         &self,
         alloc: Global,
@@ -70,9 +79,11 @@ impl<'r, R: Threads + Sync> Jobs<'r, R> {
         if self.jobs < 2 || search.len() == 0 {
             return search.go_on(alloc, system, watch);
         }
+        let mut desks = self.desks(alloc, system)?;
+        let desks = desks.as_mut_slice();
         loop {
             search.show(watch);
-            let stopped = self.go_on_at_once(alloc, search, system)?;
+            let stopped = self.go_on_level(alloc, search, system, desks, watch)?;
             match stopped {
                 Some(stop) => return search.answer(alloc, system, stop),
                 None => {}
@@ -80,24 +91,48 @@ impl<'r, R: Threads + Sync> Jobs<'r, R> {
         }
     }
 
-    /// Of the states of a level that are left, the number that the threads expand before they wait for
-    /// each other.
+    /// A desk for each thread. Fails only for want of memory.
+    fn desks<W: Drop, S: System<Workspace = W>>(
+        &self,
+        alloc: Global,
+        system: &S,
+    ) -> Result<Vec<Desk<W>>, AllocError>
+        ensures count { IfOk result (λ desks. length desks.items ≡ self.now.jobs) }
+        ensures desks { IfOk result (λ desks.
+            AllAre (IsDesk (S.word_count system.now) (S.is_workspace system.now)) desks.items) }
+    {
+        let mut desks = Vec::new(alloc);
+        for _ in 0..self.jobs {
+            desks.push(Desk::new(alloc, system)?)?;
+        }
+        Ok(desks)
+    }
+
+    /// Of the states of a level that are left, the number that are laid out on the desks at once.
     fn states_at_once(&self, left: usize) -> usize
         requires { 0 < left }
         ensures some { 0 < result }
         ensures within { result ≤ left }
     {
-        left.min(MOST_STATES.saturating_mul(self.jobs.max(1) as usize))
+        let desks = self.jobs.max(1) as usize;
+        let least = LEAST_STATES.saturating_mul(desks);
+        let most = MOST_STATES.saturating_mul(desks);
+        (left / ROUNDS).max(least).min(most).min(left)
     }
 
-    /// Goes on for some states of a level, or until there is an answer: why it stops then. Fails only
-    /// for want of memory.
-    fn go_on_at_once<W: Drop + Send, S: System<Workspace = W> + Sync>(
+    /// Goes on for the states of a level that are left, or until there is an answer: why it stops then.
+    /// Fails only for want of memory.
+    fn go_on_level<W: Drop + Send, S: System<Workspace = W> + Sync, V: Watch>(
         &self,
         alloc: Global,
         search: &mut Search<W>,
         system: &S,
+        desks: &mut [Desk<W>],
+        watch: &mut V,
     ) -> Result<Option<Stop>, AllocError>
+        requires some { 0 < length desks.old }
+        requires desks { AllAre (IsDesk (S.word_count system.now) (S.is_workspace system.now))
+            desks.old }
         requires over { IsOver (S.word_count system.now) (S.is_state system.now)
             (S.is_workspace system.now) search.old }
         requires searched { let step = step_within (S.choice_count system.now) (S.step system.now) in
@@ -111,19 +146,69 @@ impl<'r, R: Threads + Sync> Jobs<'r, R> {
         ensures further { IfOk result (λ stop. stop ≡ None
             → search.old.front.at < search.new.front.at) }
         ensures room { IfOk result (λ _. room_of search.new ≡ room_of search.old) }
+        ensures desks { IfOk result (λ stop. stop ≡ None
+            → AllAre (IsDesk (S.word_count system.now) (S.is_workspace system.now)) desks.new) }
     {
         let Some(places) = search.turn(system) else {
             return Ok(Some(Stop::Done));
         };
         let Places { from, limit } = places;
-        let count = self.states_at_once(limit - from);
-        if count < 2 * LEAST_STATES {
-            return search.go_on_for(alloc, system, count);
+        if (limit - from) / LEAST_STATES < desks.len() {
+            return search.go_on_for(alloc, system, limit - from);
         }
-        let limit = from + count;
-        let parts = (self.jobs as usize).min(count / LEAST_STATES);
-        let states = search.states();
-        let expansions = expand_parts(self.rt, alloc, system, states, from, limit, parts)?;
-        search.take(alloc, system, limit, expansions.as_slice())
+        self.go_on_at_once(alloc, search, system, desks, places, watch)
+    }
+
+    /// Goes on for these states of a level, some at a time: while threads expand some, the caller keeps what
+    /// was found before. It stops before their end if there is an answer: why it stops then. Fails only for
+    /// want of memory.
+    fn go_on_at_once<W: Drop + Send, S: System<Workspace = W> + Sync, V: Watch>(
+        &self,
+        alloc: Global,
+        search: &mut Search<W>,
+        system: &S,
+        desks: &mut [Desk<W>],
+        places: Places,
+        watch: &mut V,
+    ) -> Result<Option<Stop>, AllocError>
+        requires some { 0 < length desks.old }
+        requires desks { AllAre (IsDesk (S.word_count system.now) (S.is_workspace system.now))
+            desks.old }
+        requires over { IsOver (S.word_count system.now) (S.is_state system.now)
+            (S.is_workspace system.now) search.old }
+        requires searched { let step = step_within (S.choice_count system.now) (S.step system.now) in
+            IsUnderWay step (S.start system.now) search.old }
+        requires left { AreLeft search.old.front places }
+        ensures over { IfOk result (λ _. IsOver (S.word_count system.now) (S.is_state system.now)
+            (S.is_workspace system.now) search.new) }
+        ensures searched { let step = step_within (S.choice_count system.now) (S.step system.now) in
+            IfOk result (λ _. IsUnderWay step (S.start system.now) search.new) }
+        ensures stop { let step = step_within (S.choice_count system.now) (S.step system.now) in
+            IfOk result (λ stop. IfSome stop (Stops step search.new.states search.new.front)) }
+        ensures further { IfOk result (λ stop. stop ≡ None
+            → search.old.front.at < search.new.front.at) }
+        ensures room { IfOk result (λ _. room_of search.new ≡ room_of search.old) }
+        ensures desks { IfOk result (λ stop. stop ≡ None
+            → AllAre (IsDesk (S.word_count system.now) (S.is_workspace system.now)) desks.new) }
+    {
+        let Places { from, limit } = places;
+        let size = self.states_at_once(limit - from);
+        let mut end = from + size;
+        lay_out_all(system, search, desks, from, end)?;
+        let mut expansions = expand_all(self.rt, alloc, system, desks)?;
+        while end < limit {
+            search.show(watch);
+            let next = end + size.min(limit - end);
+            lay_out_all(system, search, desks, end, next)?;
+            let found = expansions.as_slice();
+            let (stop, more) = take_and_expand(self.rt, alloc, system, search, end, found, desks)?;
+            match stop {
+                Some(stop) => return Ok(Some(stop)),
+                None => {}
+            }
+            expansions = more;
+            end = next;
+        }
+        search.take(alloc, system, end, expansions.as_slice())
     }
 }

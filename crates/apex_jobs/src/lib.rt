@@ -4,5 +4,7 @@
 
 mod expanding;
 mod jobs;
+mod laying;
+mod taking;
 
 pub use jobs::Jobs;

@@ -62,12 +62,21 @@ kept_at {A} f n old before d within is =
     ∙ subst (λ (k : ℕ). get_or (done ++ get_or old n d ∷ rest) k d ≡ get_or old n d) (length_of f n)
     (get_or-append_seam done (get_or old n d) rest d)
 
--- what is found at the next place is the old value
-pub found_kept : (f : ℕ → ℕ) (n : ℕ) (old before : List ℕ) → n < length old → before ≡ of_places f n ++ drop n old
-    → slice_get before n ≡ slice_get old n
-found_kept f n old before within is =
-    let longer : n < length before = rw (kept_from f n old before 0 within is, length-append, length_of f n) (omega arith) in
-    slice_get-get_or before n 0 longer ∙ ap Some (kept_at f n old before 0 within is) ∙ sym (slice_get-get_or old n 0 within)
+-- the next place has its value already
+pub still_at : {A : Type 0} → (f : ℕ → A) (n : ℕ) (old before : List A) (d : A) → n < length old → before ≡ of_places f n ++ drop n old
+    → get_or before n d ≡ f n → before ≡ of_places f (n + 1) ++ drop (n + 1) old
+still_at {A} f n old before d within is value =
+    let done = of_places f n in
+    let rest = drop (n + 1) old in
+    kept_from f n old before d within is
+    ∙ ap (λ (x : A). done ++ x ∷ rest) (sym (kept_at f n old before d within is) ∙ value)
+    ∙ sym (append_assoc done (f n ∷ []) rest) ∙ ap (λ (l : List A). l ++ rest) (rw (add-one n) refl)
+
+-- the value of a place that there is
+pub same_at : {A : Type 0} → (all : List A) (n : ℕ) (d e : A) → n < length all → get_or all n d ≡ get_or all n e
+same_at [] n d e within = absurd (omega (arith, within))
+same_at (x ∷ all) zero d e within = refl
+same_at (x ∷ all) (suc n) d e within = same_at all n d e (omega (arith, within))
 
 -- the next place has its value too
 pub changed_at : {A : Type 0} → (f : ℕ → A) (n : ℕ) (old before after : List A) (next : A) → n < length old

@@ -2,7 +2,7 @@
 use Rattle.std.proofs.Common.{◌≡◌, ◌∙◌, ℕ, List, ◌++◌, ap, sym, append_assoc, inl, inr, codes, decimal, arith}
 use Rattle.std.proofs.lemmas.Fmt.{decimal_digit}
 use Rattle.apex_pictures.specs.Instants.{time_text}
-use Rattle.apex_pictures.specs.Stamps.{IsGroup, begin_back, begin_front, end_back, end_front}
+use Rattle.apex_pictures.specs.Stamps.{IsGroup, begin_back, begin_front, end_front, time_back}
 use Rattle.apex_pictures.specs.Trace.{begin_text, end_text}
 use Rattle.apex_pictures.specs.declared.trace.Spot.{Spot}
 
@@ -69,18 +69,21 @@ six_behind text a b c d e f first second third fourth fifth whole u v w x y z =
     ∙ append_assoc text (a ++ b ++ c ++ d ++ e) f
 
 -- the end of a slice
-pub end_whole : (spot : Spot) (text first second after : List ℕ) → first ≡ text ++ end_front spot.group
-    → second ≡ first ++ decimal spot.track → after ≡ second ++ end_back spot.time → after ≡ text ++ end_text spot
+pub end_whole : (spot : Spot) (text first second third after : List ℕ) → first ≡ text ++ end_front spot.group
+    → second ≡ first ++ decimal spot.track → third ≡ second ++ time_back spot.time → after ≡ third ++ codes "}"
+    → after ≡ text ++ end_text spot
 unfolding end_text
-end_whole spot text first second after x y z =
+end_whole spot text first second third after w x y z =
     let e = codes ",\n{\"ph\":\"E\",\"pid\":" in
     let tid = codes ",\"tid\":" in
     let ts = codes ",\"ts\":" in
     let group = decimal spot.group in
     let track = decimal spot.track in
     let time = time_text spot.time in
-    let rest : end_back spot.time ≡ ts ++ (time ++ codes "}") = append_assoc ts time (codes "}") in
-    behind text (end_front spot.group) track (end_back spot.time) after first second x y z
+    let rest : time_back spot.time ++ codes "}" ≡ ts ++ (time ++ codes "}") = append_assoc ts time (codes "}") in
+    let back : after ≡ second ++ (time_back spot.time ++ codes "}") =
+    z ∙ ap (λ l. l ++ codes "}") y ∙ append_assoc second (time_back spot.time) (codes "}") in
+    behind text (end_front spot.group) track (time_back spot.time ++ codes "}") after first second w x back
     ∙ ap (λ l. text ++ (end_front spot.group ++ (track ++ l))) rest
     ∙ ap (λ l. text ++ l) (append_assoc (e ++ group) tid (track ++ (ts ++ (time ++ codes "}")))
     ∙ append_assoc e group (tid ++ (track ++ (ts ++ (time ++ codes "}")))))

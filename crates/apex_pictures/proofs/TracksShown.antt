@@ -1,21 +1,28 @@
 -- What a trace shows of a moment gives the text of the moment.
-use Rattle.std.proofs.Common.{◌≡◌, ◌∙◌, ℕ, zero, suc, ◌<◌, List, [], ◌∷◌, ◌++◌, Option, refl, sym, ap, append_assoc, subst}
+use Rattle.std.proofs.Common.{◌≡◌, ◌∙◌, ℕ, zero, suc, ◌<◌, true, List, [], ◌∷◌, ◌++◌, Option, Some, refl, sym, ap, append-nil, append_assoc, subst}
+use Rattle.std.proofs.lemmas.Bool.{eq-eqb}
 use Rattle.std.proofs.lemmas.List.{length-map, map-append}
 use Rattle.std.specs.Prelude.{map, flat_map, length, slice_index_or, codes}
 use Rattle.apex_machine.specs.text.Listing.{texts_of}
-use Rattle.apex_machine.specs.processes.Roster.{Roster}
+use Rattle.apex_machine.specs.processes.Roster.{Roster, record_at}
+use Rattle.apex_machine.specs.processes.Running.{chosen, is_process, process_state}
+use Rattle.apex_machine.proofs.States.{is_found}
+use Rattle.apex_store.proofs.States.{running_chosen}
 use Rattle.apex_machine.specs.table.Table.{Table}
 use Rattle.apex_types.specs.declared.limits.TheConstants.{MOST_CORES}
+use Rattle.apex_types.specs.declared.modes.State.TheVariants as states
 use Rattle.apex_pictures.specs.Trace.{objects_text}
 use Rattle.apex_pictures.specs.Counts.{Counts, HasCounts}
 use Rattle.apex_pictures.specs.Moments.{Shown, cell_of, moment_of, no_cell, none_shown, running_in}
 use Rattle.apex_pictures.specs.Places.{of_places}
-use Rattle.apex_pictures.specs.Terms.{Cell, Entry}
+use Rattle.apex_pictures.specs.Terms.{Cell, Entry, State}
 use Rattle.apex_pictures.specs.Trace as trace
-use Rattle.apex_pictures.specs.Tracks.{Fits, Follows, HasTracks, bare, bare_cell, bare_cells, cell_on, no_track, track_of}
+use Rattle.apex_pictures.specs.Tracks.{Fits, Follows, HasTracks, bare, bare_cell, bare_cells, cell_on, track_of}
 use Rattle.apex_pictures.specs.declared.styles.Style.{Style}
 use Rattle.apex_pictures.specs.declared.styles.Style.TheVariants.{Svg, Trace}
-use Rattle.apex_pictures.specs.declared.tracks.Track.{Track}
+use Rattle.apex_pictures.specs.Beings.{being_in, being_of, same_being}
+use Rattle.apex_pictures.specs.declared.beings.Being.{Being}
+use Rattle.apex_pictures.specs.declared.beings.Being.TheVariants.{Dormant, Ready, Running, Waiting, Normal, Start, Time, Period, Semaphore, Buffer, Blackboard, EventFlag, Mutex}
 use Rattle.apex_pictures.proofs.Places.{place_of}
 
 -- the values of places, changed one by one
@@ -25,7 +32,7 @@ map_places f g (suc n) =
     map-append f (of_places g n) (g n ∷ []) ∙ ap (λ l. l ++ f (g n) ∷ []) (map_places f g n)
 
 -- the tracks of all processes show what a trace shows of their cells
-tracks_shown : (roster : Roster) (n : ℕ) (tracks : List Track) → tracks ≡ of_places (track_of roster) n
+tracks_shown : (roster : Roster) (n : ℕ) (tracks : List Being) → tracks ≡ of_places (track_of roster) n
     → map cell_on tracks ≡ map bare_cell (of_places (cell_of roster) n)
 tracks_shown roster n tracks is =
     ap (map cell_on) is ∙ map_places cell_on (track_of roster) n
@@ -36,21 +43,37 @@ abbrev pub shown_of : List Cell → List (Option ℕ) → Counts → Shown
 shown_of cells running counts = record { cells = cells; running = running; counts = counts }
 
 -- the tracks of all processes, the process that each core runs, and the counts
-pub tracks_same : (roster : Roster) (tracks : List Track) (running : List (Option ℕ)) (counts : Counts)
+pub tracks_same : (roster : Roster) (tracks : List Being) (running : List (Option ℕ)) (counts : Counts)
     → tracks ≡ of_places (track_of roster) (length roster.records) → running ≡ running_in roster
     → shown_of (map cell_on tracks) running counts ≡ bare (moment_of roster counts)
 tracks_same roster tracks running counts is runs =
     ap (λ cells. shown_of cells running counts) (tracks_shown roster (length roster.records) tracks is)
     ∙ ap (λ all. shown_of (map bare_cell (of_places (cell_of roster) (length roster.records))) all counts) runs
 
--- what a track shows is the cell
-pub track_seen : (tracks : List Track) (p : ℕ)
-    → cell_on (slice_index_or tracks p no_track) ≡ slice_index_or (map cell_on tracks) p no_cell
+-- a cell that shows this shows it
+being_on : (being : Being) → being_in (cell_on being) ≡ being
+being_on Dormant = refl
+being_on Ready = refl
+being_on Running = refl
+being_on Waiting = refl
+being_on Normal = refl
+being_on Start = refl
+being_on Time = refl
+being_on Period = refl
+being_on (Semaphore s) = refl
+being_on (Buffer b) = refl
+being_on (Blackboard b) = refl
+being_on (EventFlag e) = refl
+being_on (Mutex m) = refl
+
+-- a track shows what the cell shows
+pub track_seen : (tracks : List Being) (p : ℕ)
+    → slice_index_or tracks p Dormant ≡ being_in (slice_index_or (map cell_on tracks) p no_cell)
 track_seen [] p = refl
-track_seen (track ∷ tracks) zero = refl
+track_seen (track ∷ tracks) zero = sym (being_on track)
 track_seen (track ∷ tracks) (suc p) = track_seen tracks p
 
--- the cell of a process, without mutexes
+-- what a trace shows of the cell of a process
 cell_bare : (cells : List Cell) (p : ℕ)
     → slice_index_or (map bare_cell cells) p no_cell ≡ bare_cell (slice_index_or cells p no_cell)
 cell_bare [] p = refl
@@ -59,10 +82,16 @@ cell_bare (cell ∷ cells) (suc p) = cell_bare cells p
 
 -- what the track of a process shows after an entry
 pub track_now : (roster : Roster) (p : ℕ) → p < length roster.records
-    → cell_on (track_of roster p) ≡ slice_index_or (bare_cells roster) p no_cell
+    → track_of roster p ≡ being_in (slice_index_or (bare_cells roster) p no_cell)
 track_now roster p within =
-    sym (cell_bare (of_places (cell_of roster) (length roster.records)) p
-    ∙ ap bare_cell (place_of (cell_of roster) (length roster.records) p no_cell within))
+    sym (being_on (track_of roster p))
+    ∙ sym (ap being_in (cell_bare (of_places (cell_of roster) (length roster.records)) p
+    ∙ ap bare_cell (place_of (cell_of roster) (length roster.records) p no_cell within)))
+
+-- the slice shows the same of a cell and of what a trace shows of it
+being_bare : (cells : List Cell) (p : ℕ)
+    → being_in (slice_index_or (map bare_cell cells) p no_cell) ≡ being_in (slice_index_or cells p no_cell)
+being_bare cells p = ap being_in (cell_bare cells p) ∙ being_on (being_in (slice_index_or cells p no_cell))
 
 -- texts that are the same one by one
 texts_same : (f g : ℕ → List ℕ) (n : ℕ) → ((i : ℕ) → f i ≡ g i) → texts_of f n ≡ texts_of g n
@@ -70,22 +99,13 @@ texts_same f g zero same = refl
 texts_same f g (suc n) same =
     ap (λ l. l ++ f n) (texts_same f g n same) ∙ ap (λ l. texts_of g n ++ l) (same n)
 
--- the changes on the track of a process, by what the tracks show
-pub process_seen : (table : Table) (time now p : ℕ) (before after old new : Cell) (text whole : List ℕ)
-    → before ≡ old → after ≡ new
-    → whole ≡ text ++ trace.process_text table (trace.process_spot p time) now before after
-    → whole ≡ text ++ trace.process_text table (trace.process_spot p time) now old new
-process_seen table time now p before after old new text whole was is put =
-    put ∙ ap (λ (c : Cell). text ++ trace.process_text table (trace.process_spot p time) now c after) was
-    ∙ ap (λ (c : Cell). text ++ trace.process_text table (trace.process_spot p time) now old c) is
-
 process_same : (table : Table) (time now : ℕ) (before after : Shown) (p : ℕ)
     → trace.process_at table time now (bare before) (bare after) p ≡ trace.process_at table time now before after p
 process_same table time now before after p =
-    ap (λ (c : Cell). trace.process_text table (trace.process_spot p time) now c (trace.cell_at (bare after) p))
-    (cell_bare before.cells p)
-    ∙ ap (λ (c : Cell). trace.process_text table (trace.process_spot p time) now (trace.cell_at before p) c)
-    (cell_bare after.cells p)
+    ap (λ (b : Being). trace.process_text table (trace.process_spot p time) now b (being_in (trace.cell_at (bare after) p)))
+    (being_bare before.cells p)
+    ∙ ap (λ (b : Being). trace.process_text table (trace.process_spot p time) now (being_in (trace.cell_at before p)) b)
+    (being_bare after.cells p)
 
 -- the changes on all tracks
 changes_same : (table : Table) (time now : ℕ) (before after : Shown)
@@ -128,15 +148,47 @@ follow_fits (Svg frame) tracks shown table follows counts cores = tt
 follow_fits Trace tracks shown table follows counts cores =
     (subst (λ (s : Shown). HasCounts s.counts table) (sym follows) counts, ap (λ (s : Shown). length s.running) follows ∙ cores)
 
--- the changes, those of the objects and the marks of a column, one behind the other
-pub column_whole : (table : Table) (time : ℕ) (before : Shown) (entry : Entry) (after : Shown) (text one two whole : List ℕ)
-    → one ≡ text ++ trace.changes_text table time entry.now before after
-    → two ≡ one ++ objects_text table time entry.now before.counts after.counts
-    → whole ≡ two ++ flat_map (trace.marked_text time entry.now) entry.notices
+-- the changes and the marks of a column, one behind the other
+pub column_whole : (table : Table) (time : ℕ) (before : Shown) (entry : Entry) (after : Shown) (text one whole : List ℕ)
+    → one ≡ text ++ (trace.changes_text table time entry.now before after
+    ++ objects_text table time entry.now before.counts after.counts)
+    → whole ≡ one ++ flat_map (trace.marked_text time entry.now) entry.notices
     → whole ≡ text ++ trace.column_text table time before entry after
-column_whole table time before entry after text one two whole changes objects marks =
-    let changed = trace.changes_text table time entry.now before after in
-    let counted = objects_text table time entry.now before.counts after.counts in
+column_whole table time before entry after text one whole changes marks =
+    let changed = trace.changes_text table time entry.now before after
+    ++ objects_text table time entry.now before.counts after.counts in
     let marked = flat_map (trace.marked_text time entry.now) entry.notices in
-    marks ∙ ap (λ l. l ++ marked) (objects ∙ ap (λ l. l ++ counted) changes)
-    ∙ ap (λ l. l ++ marked) (append_assoc text changed counted) ∙ append_assoc text (changed ++ counted) marked
+    marks ∙ ap (λ l. l ++ marked) changes ∙ append_assoc text changed marked
+
+-- the track of a process that its core runs
+pub track_running : (roster : Roster) (core p : ℕ) (running : Option ℕ) → running ≡ chosen roster core
+    → is_process p running ≡ true → track_of roster p ≡ Running
+track_running roster core p running is found =
+    let chose : chosen roster core ≡ Some p = sym is ∙ is_found p running found in
+    ap (λ (s : State). being_of s (record_at roster p).wait) ((running_chosen roster p).running core chose)
+
+-- the track of a ready process
+pub track_ready : (roster : Roster) (p : ℕ) → process_state roster p ≡ states.Ready → track_of roster p ≡ Ready
+track_ready roster p is = ap (λ (s : State). being_of s (record_at roster p).wait) is
+
+same_as_itself : (being : Being) → same_being being being ≡ true
+same_as_itself Dormant = refl
+same_as_itself Ready = refl
+same_as_itself Running = refl
+same_as_itself Waiting = refl
+same_as_itself Normal = refl
+same_as_itself Start = refl
+same_as_itself Time = refl
+same_as_itself Period = refl
+same_as_itself (Semaphore s) = eq-eqb s s refl
+same_as_itself (Buffer b) = eq-eqb b b refl
+same_as_itself (Blackboard b) = eq-eqb b b refl
+same_as_itself (EventFlag e) = eq-eqb e e refl
+same_as_itself (Mutex m) = eq-eqb m m refl
+
+-- nothing is put if the track of a process shows what it showed
+pub process_still : (table : Table) (time now p : ℕ) (before after : Being) (text : List ℕ) → before ≡ after
+    → text ≡ text ++ trace.process_text table (trace.process_spot p time) now before after
+process_still table time now p before after text is =
+    let nothing : trace.process_text table (trace.process_spot p time) now before after ≡ [] = rw (is, same_as_itself after) refl in
+    sym (append-nil text) ∙ ap (λ (l : List ℕ). text ++ l) (sym nothing)

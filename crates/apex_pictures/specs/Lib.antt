@@ -8,7 +8,7 @@ pub mod Instants
 pub mod Moments
 pub mod Svg
 pub mod Counters
-pub mod Waits
+pub mod Beings
 pub mod Trace
 pub mod Stamps
 pub mod Tracks

@@ -8,15 +8,15 @@ use Rattle.apex_pictures.specs.declared.trace.Spot.{Spot}
 abbrev pub end_front : ℕ → List ℕ
 end_front group = codes ",\n{\"ph\":\"E\",\"pid\":" ++ decimal group ++ codes ",\"tid\":"
 
--- the rest of it
-abbrev pub end_back : ℕ → List ℕ
-end_back time = codes ",\"ts\":" ++ time_text time ++ codes "}"
+-- the time behind the number of a track
+abbrev pub time_back : ℕ → List ℕ
+time_back time = codes ",\"ts\":" ++ time_text time
 
 -- the beginning of a slice, up to the number of its track
 abbrev pub begin_front : ℕ → List ℕ
 begin_front group = codes ",\n{\"ph\":\"B\",\"pid\":" ++ decimal group ++ codes ",\"tid\":"
 
--- the rest of it, up to the slice's name
+-- what is behind the number of a track at the beginning of a slice, up to its name
 abbrev pub begin_back : ℕ → ℕ → List ℕ
 begin_back time now =
     codes ",\"ts\":" ++ time_text time ++ codes ",\"args\":{\"now\":" ++ decimal now
@@ -25,7 +25,7 @@ begin_back time now =
 -- the texts of a stamp are those of this time
 abbrev pub IsStamp : Stamp → ℕ → Type 0
 IsStamp stamp time =
-    (stamp.end.bytes ≡ end_back time) × (stamp.begin.bytes ≡ begin_back time stamp.ticks)
+    (stamp.time.items ≡ time_back time) × (stamp.begin.items ≡ begin_back time stamp.ticks)
 
 -- the group of the cores, of the processes or of the objects
 abbrev pub IsGroup : ℕ → Type 0

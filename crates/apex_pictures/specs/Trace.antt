@@ -1,22 +1,21 @@
 -- A picture as a trace in the Trace Event Format, which is JSON. The groups of tracks are the cores (1), the
 -- processes (2) and the objects (3), of which the mutexes have tracks and the others counters. A tick is 1,000 units of the axis; times are hundredths of a unit, and the
 -- partition's time is an argument too.
-use Rattle.std.specs.Prelude.{ℕ, ◌+◌, Bool, true, false, List, [], ◌∷◌, ◌++◌, Option, None, Some, is_some, codes, decimal, flat_map, length, slice_index_or, if◌then◌else◌, ◌==◌, ◌&&◌}
+use Rattle.std.specs.Prelude.{ℕ, ◌+◌, Bool, true, false, List, [], ◌∷◌, ◌++◌, Option, None, Some, is_some, codes, decimal, flat_map, length, slice_index_or, if◌then◌else◌, ◌==◌}
 use Rattle.apex_machine.specs.text.Texts.{id_text, mutex_name, process_name}
 use Rattle.apex_calls.specs.Lines.{code_text, deadline_text}
 use Rattle.apex_machine.specs.text.Listing.{texts_of}
-use Rattle.apex_machine.specs.text.Status.{state_text}
 use Rattle.apex_machine.specs.table.Table.{Table}
 use Rattle.apex_types.specs.declared.entries.Notice.TheVariants.{Woken, Released, Missed}
-use Rattle.apex_types.specs.declared.modes.State.TheVariants.{Dormant, Ready, Running, Waiting}
 use Rattle.apex_pictures.specs.Counters.{counters_text}
 use Rattle.apex_pictures.specs.Counts.{Counts, no_counts}
 use Rattle.apex_pictures.specs.Instants.{time_text}
 use Rattle.apex_pictures.specs.Moments.{Shown, no_cell, none_shown}
 use Rattle.apex_pictures.specs.Stamps.{begin_back}
 use Rattle.apex_pictures.specs.Svg.{texts}
-use Rattle.apex_pictures.specs.Terms.{Cell, Entry, Notice, State, Wait}
-use Rattle.apex_pictures.specs.Waits.{same_things, waiting_text}
+use Rattle.apex_pictures.specs.Terms.{Cell, Entry, Notice}
+use Rattle.apex_pictures.specs.Beings.{being_in, being_name, is_begun, same_being}
+use Rattle.apex_pictures.specs.declared.beings.Being.{Being}
 use Rattle.apex_json.specs.Strings.{json_text}
 use Rattle.apex_pictures.specs.declared.trace.Spot.{Spot}
 
@@ -83,17 +82,10 @@ run_text table spot now p = begin_text spot now ++ run_name_text table p
 abbrev pub slice_text : Spot → ℕ → List ℕ → List ℕ
 slice_text spot now word = begin_text spot now ++ word ++ codes "\"}"
 
--- a process is not dormant
-abbrev pub is_begun : State → Bool
-is_begun Dormant = false
-is_begun state = true
-
--- the slice of a state to which a process comes, with this wait; a dormant one has none
-abbrev pub being_text : Table → Spot → ℕ → State → Option Wait → List ℕ
-being_text table spot now Dormant wait = []
-being_text table spot now Ready wait = slice_text spot now (state_text Ready)
-being_text table spot now Running wait = slice_text spot now (state_text Running)
-being_text table spot now Waiting wait = slice_text spot now (waiting_text table wait)
+-- the slice of a process; a dormant one has none
+abbrev pub being_text : Table → Spot → ℕ → Being → List ℕ
+being_text table spot now being =
+    if is_begun being then slice_text spot now (being_name table being) else []
 
 -- the slice of the process that a core runs, if it runs one
 abbrev pub run_of : Table → Spot → ℕ → Option ℕ → List ℕ
@@ -116,14 +108,6 @@ same_process None (Some q) = false
 same_process (Some p) None = false
 same_process (Some p) (Some q) = p == q
 
--- two states are the same
-abbrev pub same_state : State → State → Bool
-same_state Dormant Dormant = true
-same_state Ready Ready = true
-same_state Running Running = true
-same_state Waiting Waiting = true
-same_state state other = false
-
 -- the changes on the track of a core
 abbrev pub core_text : Table → Spot → ℕ → Option ℕ → Option ℕ → List ℕ
 core_text table spot now before after =
@@ -136,15 +120,11 @@ mutex_text table spot now before after =
     if same_process before after then []
     else ended (is_some before) spot ++ owned_text table spot now after
 
--- two slices of a process are one: the state is the same, and it waits for the same thing
-abbrev pub same_being : Cell → Cell → Bool
-same_being before after = same_state before.state after.state && same_things before.wait after.wait
-
--- the changes on the track of a process
-abbrev pub process_text : Table → Spot → ℕ → Cell → Cell → List ℕ
+-- the changes on the track of a process, by what its slice showed and what it shows
+abbrev pub process_text : Table → Spot → ℕ → Being → Being → List ℕ
 process_text table spot now before after =
     if same_being before after then []
-    else ended (is_begun before.state) spot ++ being_text table spot now after.state after.wait
+    else ended (is_begun before) spot ++ being_text table spot now after
 
 -- the track of a core
 abbrev pub core_spot : ℕ → ℕ → Spot
@@ -171,7 +151,8 @@ cell_at shown p = slice_index_or shown.cells p no_cell
 -- the changes on the track of process p
 abbrev pub process_at : Table → ℕ → ℕ → Shown → Shown → ℕ → List ℕ
 process_at table time now before after p =
-    process_text table (process_spot p time) now (cell_at before p) (cell_at after p)
+    process_text table (process_spot p time) now
+    (being_in (cell_at before p)) (being_in (cell_at after p))
 
 -- the changes on the track of mutex m, by the owners of all mutexes
 abbrev pub mutex_at : Table → ℕ → ℕ → List (Option ℕ) → List (Option ℕ) → ℕ → List ℕ

@@ -1,35 +1,54 @@
--- The processes and the counts after an entry, as a trace shows them: of each cell the state and the wait.
-use Rattle.std.specs.Prelude.{◌≡◌, ℕ, List, [], length, map, None}
+-- The processes and the counts after an entry, as a trace shows them: of each cell what the slice shows.
+use Rattle.std.specs.Prelude.{◌≡◌, ℕ, List, [], length, map, Option, None, Some}
 use Rattle.apex_pictures.specs.Counts.{HasCounts}
 use Rattle.apex_pictures.specs.Moments.{Shown, cell_of}
 use Rattle.apex_pictures.specs.Places.{of_places}
-use Rattle.apex_pictures.specs.Terms.{Cell}
+use Rattle.apex_pictures.specs.Terms.{Cell, State, Wait}
 use Rattle.apex_pictures.specs.declared.styles.Style.{Style}
 use Rattle.apex_pictures.specs.declared.styles.Style.TheVariants.{Svg, Trace}
-use Rattle.apex_pictures.specs.declared.tracks.Track.{Track}
+use Rattle.apex_pictures.specs.declared.beings.Being.{Being}
+use Rattle.apex_pictures.specs.declared.beings.Being.TheVariants.{Dormant, Ready, Running, Waiting, Normal, Start, Time, Period, Semaphore, Buffer, Blackboard, EventFlag, Mutex}
+use Rattle.apex_pictures.specs.Beings.{being_in, being_of}
+use Rattle.apex_machine.specs.declared.records.Wait.TheVariants as waits
 use Rattle.apex_machine.specs.table.Table.{Table}
 use Rattle.apex_types.specs.declared.limits.TheConstants.{MOST_CORES}
 use Rattle.apex_machine.specs.processes.Roster.{Roster, record_at}
 use Rattle.apex_machine.specs.processes.Running.{process_state}
-use Rattle.apex_types.specs.declared.modes.State.TheVariants.{Dormant}
+use Rattle.apex_types.specs.declared.modes.State.TheVariants as states
 
--- the track of no process
-abbrev pub no_track : Track
-no_track = record { state = Dormant; wait = None }
+-- what the track of process p shows
+abbrev pub track_of : Roster → ℕ → Being
+track_of roster p = being_of (process_state roster p) (record_at roster p).wait
 
--- the track of process p
-abbrev pub track_of : Roster → ℕ → Track
-track_of roster p = record { state = process_state roster p; wait = (record_at roster p).wait }
+-- a waiting process's cell
+abbrev pub waiting_cell : Option Wait → Cell
+waiting_cell wait = record { state = states.Waiting; wait = wait; owned = [] }
 
--- a cell without the mutexes that the process owns
+-- another process's cell
+abbrev pub cell_without : State → Cell
+cell_without state = record { state = state; wait = None; owned = [] }
+
+-- a cell that shows this
+abbrev pub cell_on : Being → Cell
+cell_on Dormant = cell_without states.Dormant
+cell_on Ready = cell_without states.Ready
+cell_on Running = cell_without states.Running
+cell_on Waiting = waiting_cell None
+cell_on Normal = waiting_cell (Some (waits.Normal 0))
+cell_on Start = waiting_cell (Some waits.Start)
+cell_on Time = waiting_cell (Some waits.Time)
+cell_on Period = waiting_cell (Some waits.Period)
+cell_on (Semaphore s) = waiting_cell (Some (waits.Semaphore s))
+cell_on (Buffer b) = waiting_cell (Some (waits.Receive b))
+cell_on (Blackboard b) = waiting_cell (Some (waits.Blackboard b))
+cell_on (EventFlag e) = waiting_cell (Some (waits.EventFlag e))
+cell_on (Mutex m) = waiting_cell (Some (waits.Mutex m))
+
+-- what a trace shows of a cell
 abbrev pub bare_cell : Cell → Cell
-bare_cell cell = record cell { owned = [] }
+bare_cell cell = cell_on (being_in cell)
 
--- what a track shows
-abbrev pub cell_on : Track → Cell
-cell_on track = record { state = track.state; wait = track.wait; owned = [] }
-
--- the cells of all processes, without mutexes
+-- what a trace shows of the cells of all processes
 abbrev pub bare_cells : Roster → List Cell
 bare_cells roster = map bare_cell (of_places (cell_of roster) (length roster.records))
 

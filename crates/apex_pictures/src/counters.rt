@@ -1,36 +1,40 @@
 //! The counters of a trace: what is counted of each object, as it changes.
-ghost use Rattle.std.specs.Prelude.{◌≡◌, ◌++◌, [], OnOk, length};
+ghost use Rattle.std.specs.Prelude.{◌≡◌, ◌+◌, ◌*◌, ◌≤◌, ◌++◌, [], OnOk, length};
+ghost use Rattle.arrayvec.specs.ArrayVec.{array_vec_len};
+ghost use Rattle.apex_types.specs.declared.limits.TheConstants.{MOST_NAME, MOST_OBJECTS};
 ghost use Rattle.apex_pictures.specs.Counters.{change_text, count_at, counter_text, counters_text, kind_text, same_count};
 ghost use Rattle.apex_pictures.specs.Counts.{counts_in, no_counts, object_count};
+ghost use Rattle.apex_pictures.specs.Stamps.{IsStamp};
+ghost use Rattle.apex_pictures.specs.declared.pieces.TheConstants.{COUNTER, PIECE_ROOM};
 
 use crate::counts::{Counts, count_at};
-use crate::instants::time_text;
 use crate::kinds::Kind;
-use crate::texts::{put, put_number};
+use crate::pieces::{COUNTER, Piece, add, add_bytes, add_number, add_text};
+use crate::stamps::Stamp;
 use apex_dispatch::Objects;
-use apex_json::put_json;
+use apex_json::add_json;
 use apex_table::Table;
+use apex_types::{MOST_NAME, MOST_OBJECTS};
 use std::alloc::AllocError;
 
-/// Puts the count of an object of this kind and name.
+/// Adds the count of an object of this kind and name.
+// Not inlined, as an entry changes few counts.
+#[inline(never)]
 #[tactic(auto, using(std::proofs::Common::append_assoc))]
-fn put_count(
-    text: &mut Vec<u8>,
-    time: u64,
-    kind: Kind,
-    name: &[u8],
-    count: u64,
-) -> Result<(), AllocError>
-    ensures { OnOk result (text.new.items ≡ text.old.items
-        ++ counter_text kind name.now time count) }
+fn add_count(piece: &mut Piece, time: u64, stamp: &Stamp, kind: Kind, name: &[u8], count: u64)
+    requires stamp { IsStamp stamp.now time }
+    requires name { length name.now ≤ MOST_NAME }
+    requires room { array_vec_len piece.old + COUNTER ≤ PIECE_ROOM }
+    ensures text { piece.new.items ≡ piece.old.items ++ counter_text kind name.now time count }
+    ensures short { array_vec_len piece.new ≤ array_vec_len piece.old + COUNTER }
 {
-    put(text, ",\n{\"ph\":\"C\",\"pid\":3,\"ts\":")?;
-    put(text, time_text(time).as_str())?;
-    put(text, kind.front())?;
-    put_json(text, name)?;
-    put(text, kind.back())?;
-    put_number(text, count)?;
-    put(text, "}}")
+    add_text(piece, *b",\n{\"ph\":\"C\",\"pid\":3");
+    add_bytes(piece, stamp.time());
+    add(piece, kind.front());
+    add_json(piece, name);
+    add(piece, kind.back());
+    add_number(piece, count);
+    add_text(piece, *b"}}");
 }
 
 #[inline(always)]
@@ -43,61 +47,77 @@ fn is_same_count(before: &Option<u64>, count: u64) -> bool
     }
 }
 
-/// Puts the count of the object of a kind at a place, if it is not the one before.
+/// Adds the count of the object of a kind at a place, if it is not the one before.
 #[inline(always)]
-fn put_change(
-    text: &mut Vec<u8>,
+fn add_change(
+    piece: &mut Piece,
     table: &Table,
     time: u64,
+    stamp: &Stamp,
     kind: Kind,
     place: u8,
     before: &Option<u64>,
     count: u64,
-) -> Result<(), AllocError>
-    ensures { OnOk result (text.new.items ≡ text.old.items
-        ++ change_text table.now time kind place before.now count) }
+)
+    requires stamp { IsStamp stamp.now time }
+    requires room { array_vec_len piece.old + COUNTER ≤ PIECE_ROOM }
+    ensures text { piece.new.items ≡ piece.old.items
+        ++ change_text table.now time kind place before.now count }
+    ensures short { array_vec_len piece.new ≤ array_vec_len piece.old + COUNTER }
 {
     if is_same_count(before, count) {
-        return Ok(());
+        return;
     }
-    put_count(text, time, kind, kind.object_name(table, place), count)
+    add_count(
+        piece,
+        time,
+        stamp,
+        kind,
+        kind.object_name(table, place),
+        count,
+    );
 }
 
-/// Puts the first count of the object of a kind at a place, if it has one.
-fn put_first(
-    text: &mut Vec<u8>,
-    table: &Table,
-    kind: Kind,
-    first: &[u64],
-    place: u8,
-) -> Result<(), AllocError>
-    ensures { OnOk result (text.new.items ≡ text.old.items
-        ++ count_at table.now 0 kind [] first.now place) }
+/// Adds the first count of the object of a kind at a place, if it has one.
+fn add_first(piece: &mut Piece, table: &Table, stamp: &Stamp, kind: Kind, first: &[u64], place: u8)
+    requires stamp { IsStamp stamp.now 0 }
+    requires room { array_vec_len piece.old + COUNTER ≤ PIECE_ROOM }
+    ensures text { piece.new.items ≡ piece.old.items
+        ++ count_at table.now 0 kind [] first.now place }
+    ensures short { array_vec_len piece.new ≤ array_vec_len piece.old + COUNTER }
 {
-    match count_at(first, usize::from(place)) {
-        Some(count) => put_change(text, table, 0, kind, place, &None, count),
-        None => Ok(()),
+    if let Some(count) = count_at(first, usize::from(place)) {
+        add_change(piece, table, 0, stamp, kind, place, &None, count);
     }
 }
 
-/// Puts the first counts of all objects of a kind.
-fn put_firsts(
-    text: &mut Vec<u8>,
-    table: &Table,
-    kind: Kind,
-    first: &[u64],
-) -> Result<(), AllocError>
-    ensures { OnOk result (text.new.items ≡ text.old.items
-        ++ kind_text table.now 0 kind [] first.now) }
+/// Adds the first counts of all objects of a kind.
+fn add_firsts(piece: &mut Piece, table: &Table, stamp: &Stamp, kind: Kind, first: &[u64])
+    requires stamp { IsStamp stamp.now 0 }
+    requires room { array_vec_len piece.old + COUNTER * MOST_OBJECTS ≤ PIECE_ROOM }
+    ensures text { piece.new.items ≡ piece.old.items
+        ++ kind_text table.now 0 kind [] first.now }
+    ensures short { array_vec_len piece.new ≤ array_vec_len piece.old + COUNTER * MOST_OBJECTS }
 {
     for place in 0..kind.object_count(table) {
-        put_first(text, table, kind, first, place as u8)?;
+        add_first(piece, table, stamp, kind, first, place as u8);
     }
-    Ok(())
+}
+
+/// Adds the counts before the first entry.
+#[tactic(auto, using(std::proofs::Common::append_assoc))]
+fn add_first_counts(piece: &mut Piece, table: &Table, first: &Counts)
+    requires { array_vec_len piece.old + COUNTER * 4 * MOST_OBJECTS ≤ PIECE_ROOM }
+    ensures { piece.new.items ≡ piece.old.items ++ counters_text table.now 0 no_counts first.now }
+{
+    let stamp = Stamp::new(0, 0);
+    add_firsts(piece, table, &stamp, Kind::Semaphore, first.values());
+    add_firsts(piece, table, &stamp, Kind::Buffer, first.contents());
+    add_firsts(piece, table, &stamp, Kind::Blackboard, first.displays());
+    add_firsts(piece, table, &stamp, Kind::EventFlag, first.flags());
 }
 
 /// Puts the counts before the first entry.
-#[tactic(auto, using(std::proofs::Common::append_assoc))]
 pub(crate) fn put_first_counts(
     text: &mut Vec<u8>,
     table: &Table,
@@ -106,33 +126,35 @@ pub(crate) fn put_first_counts(
     ensures { OnOk result (text.new.items ≡ text.old.items
         ++ counters_text table.now 0 no_counts first.now) }
 {
-    put_firsts(text, table, Kind::Semaphore, first.values())?;
-    put_firsts(text, table, Kind::Buffer, first.contents())?;
-    put_firsts(text, table, Kind::Blackboard, first.displays())?;
-    put_firsts(text, table, Kind::EventFlag, first.flags())
+    let mut piece = Piece::new();
+    add_first_counts(&mut piece, table, first);
+    text.extend_from_slice(piece.as_slice())
 }
 
-/// Brings the counts of a kind up to these objects, and puts those that change.
+/// Brings the counts of a kind up to these objects, and adds those that change.
 // Inlined, so that each kind has a loop of its own.
 #[inline(always)]
-pub(crate) fn put_kind(
-    text: &mut Vec<u8>,
+pub(crate) fn add_kind(
+    piece: &mut Piece,
     table: &Table,
     objects: &Objects,
     time: u64,
+    stamp: &Stamp,
     kind: Kind,
     counts: &mut [u64],
-) -> Result<(), AllocError>
-    requires { length counts.old ≡ object_count table.now kind }
-    ensures text { OnOk result (text.new.items ≡ text.old.items
-        ++ kind_text table.now time kind counts.old (counts_in table.now objects.now kind)) }
-    ensures counts { OnOk result (counts.new ≡ counts_in table.now objects.now kind) }
+)
+    requires stamp { IsStamp stamp.now time }
+    requires many { length counts.old ≡ object_count table.now kind }
+    requires room { array_vec_len piece.old + COUNTER * MOST_OBJECTS ≤ PIECE_ROOM }
+    ensures text { piece.new.items ≡ piece.old.items
+        ++ kind_text table.now time kind counts.old (counts_in table.now objects.now kind) }
+    ensures counts { counts.new ≡ counts_in table.now objects.now kind }
+    ensures short { array_vec_len piece.new ≤ array_vec_len piece.old + COUNTER * MOST_OBJECTS }
 {
     for place in 0..kind.object_count(table) {
         let count = kind.count_of(objects, place as u8);
-        let before = count_at(counts, place);
-        put_change(text, table, time, kind, place as u8, &before, count)?;
+        let before = Some(counts[place]);
+        add_change(piece, table, time, stamp, kind, place as u8, &before, count);
         counts[place] = count;
     }
-    Ok(())
 }

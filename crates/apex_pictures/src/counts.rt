@@ -1,20 +1,23 @@
 //! What the objects of a partition hold: a count of each object of four kinds, and the owner of each
 //! mutex.
-ghost use Rattle.std.specs.Prelude.{◌≡◌, ◌++◌, OnOk, slice_get};
+ghost use Rattle.std.specs.Prelude.{◌≡◌, ◌+◌, ◌*◌, ◌≤◌, ◌++◌, slice_get};
+ghost use Rattle.arrayvec.specs.ArrayVec.{array_vec_len};
+ghost use Rattle.apex_types.specs.declared.limits.TheConstants.{MOST_OBJECTS};
+ghost use Rattle.apex_pictures.specs.declared.pieces.TheConstants.{COUNTER, PIECE_ROOM, TRACK};
 ghost use Rattle.apex_pictures.specs.Counts.{HasCounts, counts_in, counts_of, owners_in};
 ghost use Rattle.apex_pictures.specs.Stamps.{IsStamp};
 ghost use Rattle.apex_pictures.specs.Trace.{objects_text};
 
-use crate::counters::put_kind;
+use crate::counters::add_kind;
 use crate::kinds::Kind;
-use crate::mutexes::put_mutexes;
+use crate::mutexes::add_mutexes;
+use crate::pieces::{COUNTER, Piece, TRACK};
 use crate::stamps::Stamp;
 use apex_dispatch::{Kernel, Objects};
 use apex_store::Store;
 use apex_table::Table;
 use apex_types::{MOST_OBJECTS, MutexId, ProcessId};
 use arrayvec::ArrayVec;
-use std::alloc::AllocError;
 use std::marker::Model;
 
 /// What the objects of a partition hold: a value for each semaphore, a number of messages for each
@@ -96,58 +99,45 @@ pub(crate) fn count_at(counts: &[u64], place: usize) -> Option<u64>
 }
 
 impl Counts {
-    /// Brings the counts up to these objects and the owners of the mutexes, and puts the counters
+    /// Brings the counts up to these objects and the owners of the mutexes, and adds the counters
     /// and the changes on the tracks of the mutexes.
-    pub(crate) fn put_changes<S: Store>(
+    #[inline(never)]
+    pub(crate) fn add_changes<S: Store>(
         &mut self,
-        text: &mut Vec<u8>,
+        piece: &mut Piece,
         table: &Table,
         objects: &Objects,
         store: &S,
         time: u64,
         stamp: &Stamp,
-    ) -> Result<(), AllocError>
+    )
         requires stamp { IsStamp stamp.now time }
         requires counts { HasCounts self.old table.now }
-        ensures text { OnOk result (text.new.items ≡ text.old.items
+        requires room { array_vec_len piece.old + COUNTER * 4 * MOST_OBJECTS + TRACK * MOST_OBJECTS
+            ≤ PIECE_ROOM }
+        ensures text { piece.new.items ≡ piece.old.items
             ++ objects_text table.now time stamp.now.ticks self.old
-            (counts_of table.now (S.roster store.now) objects.now)) }
-        ensures counts { OnOk result (self.new
-            ≡ counts_of table.now (S.roster store.now) objects.now) }
+            (counts_of table.now (S.roster store.now) objects.now) }
+        ensures counts { self.new ≡ counts_of table.now (S.roster store.now) objects.now }
     {
-        put_kind(
-            text,
+        let values = self.values.as_mut_slice();
+        add_kind(piece, table, objects, time, stamp, Kind::Semaphore, values);
+        let contents = self.contents.as_mut_slice();
+        add_kind(piece, table, objects, time, stamp, Kind::Buffer, contents);
+        let displays = self.displays.as_mut_slice();
+        add_kind(
+            piece,
             table,
             objects,
             time,
-            Kind::Semaphore,
-            self.values.as_mut_slice(),
-        )?;
-        put_kind(
-            text,
-            table,
-            objects,
-            time,
-            Kind::Buffer,
-            self.contents.as_mut_slice(),
-        )?;
-        put_kind(
-            text,
-            table,
-            objects,
-            time,
+            stamp,
             Kind::Blackboard,
-            self.displays.as_mut_slice(),
-        )?;
-        put_kind(
-            text,
-            table,
-            objects,
-            time,
-            Kind::EventFlag,
-            self.flags.as_mut_slice(),
-        )?;
-        put_mutexes(text, table, store, time, stamp, self.owners.as_mut_slice())
+            displays,
+        );
+        let flags = self.flags.as_mut_slice();
+        add_kind(piece, table, objects, time, stamp, Kind::EventFlag, flags);
+        let owners = self.owners.as_mut_slice();
+        add_mutexes(piece, table, store, time, stamp, owners);
     }
 
     /// The value of each semaphore.

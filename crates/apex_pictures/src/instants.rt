@@ -1,18 +1,15 @@
 //! The instants of a trace: where the moment after an entry stands on its axis.
-ghost use Rattle.std.specs.Prelude.{◌≡◌, ◌*◌, ◌<◌, ◌≤◌, ◌++◌, length};
-ghost use Rattle.arrayvec.specs.ArrayString.{array_string_len};
+ghost use Rattle.std.specs.Prelude.{◌≡◌, ◌+◌, ◌<◌, ◌≤◌, ◌++◌};
+ghost use Rattle.arrayvec.specs.ArrayVec.{array_vec_len};
 ghost use Rattle.apex_types.specs.Limits.{latest};
 ghost use Rattle.apex_types.specs.declared.limits.TheConstants.{MOST_ENTRIES};
 ghost use Rattle.apex_pictures.specs.Instants.{fraction_text, hundredths, next_instant, opening_instant, time_text};
-ghost use Rattle.apex_pictures.specs.declared.instants.TheConstants.{DIGITS, TIME_ROOM};
+ghost use Rattle.apex_pictures.specs.declared.instants.TheConstants.{TIME_ROOM};
 
-use arrayvec::ArrayString;
-use itoa::Buffer;
+use crate::pieces::{DIGITS, add_digit, add_number, add_text};
+use arrayvec::ArrayVec;
 
-/// The most digits of a number.
-pub(crate) const DIGITS: usize = 20;
-
-/// The room for the text of a time: its units, a point and two digits.
+/// The most bytes of the text of a time: its units, a point and two digits.
 pub(crate) const TIME_ROOM: usize = DIGITS + 3;
 
 /// The instant of a moment: its time, and its place among the moments of that time.
@@ -63,30 +60,30 @@ impl Instant {
 }
 
 /// Adds the hundredths beyond the units, if there are any.
-#[tactic(auto, using(std::proofs::lemmas::Fmt::decimal_digit))]
-fn add_fraction(text: &mut ArrayString<TIME_ROOM>, hundredths: u64)
+#[inline(always)]
+fn add_fraction<const ROOM: usize>(text: &mut ArrayVec<u8, ROOM>, hundredths: u8)
     requires digits { hundredths < 100 }
-    requires room { array_string_len text.old ≤ DIGITS }
-    ensures { text.new.bytes ≡ text.old.bytes ++ fraction_text hundredths }
+    requires room { array_vec_len text.old + 3 ≤ ROOM }
+    ensures text { text.new.items ≡ text.old.items ++ fraction_text hundredths }
+    ensures short { array_vec_len text.new ≤ array_vec_len text.old + 3 }
 {
     if hundredths == 0 {
         return;
     }
-    let (mut tens, mut ones) = (Buffer::new(), Buffer::new());
-    text.push_str(".");
-    text.push_str(tens.format((hundredths / 10) as u8));
-    text.push_str(ones.format((hundredths % 10) as u8));
+    add_text(text, *b".");
+    add_digit(text, hundredths / 10);
+    add_digit(text, hundredths % 10);
 }
 
-/// The text of a time in hundredths of a unit: units, and two digits behind a point if there are
+/// Adds the text of a time in hundredths of a unit: units, and two digits behind a point if there are
 /// hundredths beyond them.
-#[tactic(auto, unfolding(crate::specs::Instants::time_text))]
-pub(crate) fn time_text(time: u64) -> ArrayString<TIME_ROOM>
-    ensures { result.bytes ≡ time_text time }
+#[inline(always)]
+#[tactic(auto, using(std::proofs::Common::append_assoc), unfolding(crate::specs::Instants::time_text))]
+pub(crate) fn add_time<const ROOM: usize>(text: &mut ArrayVec<u8, ROOM>, time: u64)
+    requires { array_vec_len text.old + TIME_ROOM ≤ ROOM }
+    ensures text { text.new.items ≡ text.old.items ++ time_text time }
+    ensures short { array_vec_len text.new ≤ array_vec_len text.old + TIME_ROOM }
 {
-    let mut digits = Buffer::new();
-    let mut text = ArrayString::new();
-    text.push_str(digits.format(time / 100));
-    add_fraction(&mut text, time % 100);
-    text
+    add_number(text, time / 100);
+    add_fraction(text, (time % 100) as u8);
 }

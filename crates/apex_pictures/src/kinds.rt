@@ -1,6 +1,6 @@
 //! The kinds of objects that have a counter in a trace.
-ghost use Rattle.std.specs.Prelude.{◌≡◌, ◌≤◌};
-ghost use Rattle.apex_types.specs.declared.limits.TheConstants.{MOST_OBJECTS};
+ghost use Rattle.std.specs.Prelude.{◌≡◌, ◌≤◌, length};
+ghost use Rattle.apex_types.specs.declared.limits.TheConstants.{MOST_NAME, MOST_OBJECTS};
 ghost use Rattle.apex_pictures.specs.Counters.{back_text, front_text, object_name};
 ghost use Rattle.apex_pictures.specs.Counts.{content_of, count_of, displayed_on, object_count, raised_of, value_of};
 
@@ -96,7 +96,8 @@ impl Kind {
 
     /// The name of its object at a place; no byte if there is no such object.
     pub(crate) fn object_name(self, table: &Table, place: u8) -> &[u8]
-        ensures { result.now ≡ object_name table.now self place }
+        ensures value { result.now ≡ object_name table.now self place }
+        ensures short { length result.now ≤ MOST_NAME }
     {
         match self {
             Kind::Semaphore => semaphore_name(table, SemaphoreId::at(place)),
@@ -108,7 +109,8 @@ impl Kind {
 
     /// What comes before the name in a counter.
     pub(crate) fn front(self) -> &'static str
-        ensures { result.now ≡ front_text self }
+        ensures value { result.now ≡ front_text self }
+        ensures short { length result.now ≤ 20 }
     {
         match self {
             Kind::Semaphore => ",\"name\":\"semaphore ",
@@ -120,7 +122,8 @@ impl Kind {
 
     /// What comes behind the name in a counter.
     pub(crate) fn back(self) -> &'static str
-        ensures { result.now ≡ back_text self }
+        ensures value { result.now ≡ back_text self }
+        ensures short { length result.now ≤ 22 }
     {
         match self {
             Kind::Semaphore => "\",\"args\":{\"value\":",

@@ -4,6 +4,7 @@
 #![tactic(auto)]
 
 mod axes;
+mod beings;
 mod counters;
 mod counts;
 mod drawing;
@@ -23,7 +24,6 @@ mod svg;
 mod texts;
 mod trace;
 mod tracks;
-mod waits;
 mod words;
 
 pub use axes::Axis;

@@ -58,7 +58,9 @@ impl Model for Moment {
     } };
 }
 
-fn is_process(process: ProcessId, chosen: Option<ProcessId>) -> bool
+/// The process is this one.
+#[inline(always)]
+pub(crate) fn is_process(process: ProcessId, chosen: Option<ProcessId>) -> bool
     ensures { result ≡ is_process process chosen }
 {
     match chosen {

@@ -1,15 +1,16 @@
 //! The tracks of the mutexes in a trace: a slice lasts as long as a process owns the mutex.
-ghost use Rattle.std.specs.Prelude.{◌≡◌, ◌+◌, ◌≤◌, ◌++◌, [], is_some, length, slice_index_or, None, OnOk};
+ghost use Rattle.std.specs.Prelude.{◌≡◌, ◌+◌, ◌*◌, ◌≤◌, ◌++◌, [], is_some, length, slice_index_or, None, OnOk};
 ghost use Rattle.arrayvec.specs.ArrayVec.{array_vec_len};
 ghost use Rattle.apex_machine.specs.text.Listing.{texts_of};
+ghost use Rattle.apex_types.specs.declared.limits.TheConstants.{MOST_OBJECTS};
 ghost use Rattle.apex_pictures.specs.Counts.{owners_in};
 ghost use Rattle.apex_pictures.specs.Stamps.{IsStamp, Stamps};
 ghost use Rattle.apex_pictures.specs.Trace as trace;
-ghost use Rattle.apex_pictures.specs.declared.pieces.TheConstants.{PIECE_ROOM};
+ghost use Rattle.apex_pictures.specs.declared.pieces.TheConstants.{PIECE_ROOM, TRACK};
 ghost use Rattle.apex_pictures.specs.declared.trace.TheConstants.{BEGIN, NAME};
 
 use crate::names::mutex_name;
-use crate::pieces::{Piece, add_text};
+use crate::pieces::{Piece, TRACK, add_text};
 use crate::stamps::Stamp;
 use crate::texts::{Part, put_all};
 use crate::trace::{BEGIN, NAME, Spot, add_begin, add_ended, is_same_process, mutex_spot};
@@ -58,8 +59,9 @@ pub(crate) fn put_mutex_names(text: &mut Vec<u8>, table: &Table) -> Result<(), A
 fn add_owner(piece: &mut Piece, table: &Table, spot: Spot, stamp: &Stamp, owner: &Option<ProcessId>)
     requires stamps { Stamps stamp.now spot }
     requires room { array_vec_len piece.old + BEGIN + NAME ≤ PIECE_ROOM }
-    ensures { piece.new.items ≡ piece.old.items
+    ensures text { piece.new.items ≡ piece.old.items
         ++ trace.owned_text table.now spot stamp.now.ticks owner.now }
+    ensures short { array_vec_len piece.new ≤ array_vec_len piece.old + BEGIN + NAME }
 {
     if let Some(process) = owner {
         add_begin(piece, spot, stamp);
@@ -68,47 +70,53 @@ fn add_owner(piece: &mut Piece, table: &Table, spot: Spot, stamp: &Stamp, owner:
     }
 }
 
-/// Puts the end of the slice on the track of a mutex, and the beginning of the next one.
+/// Adds the end of the slice on the track of a mutex, and the beginning of the next one.
 // Not inlined, as on most tracks an entry changes nothing.
 #[inline(never)]
-fn put_handover(
-    text: &mut Vec<u8>,
-    table: &Table,
-    spot: Spot,
-    stamp: &Stamp,
-    before: &Option<ProcessId>,
-    after: &Option<ProcessId>,
-) -> Result<(), AllocError>
-    requires { Stamps stamp.now spot }
-    ensures { OnOk result (text.new.items ≡ text.old.items
-        ++ (trace.ended (is_some before.now) spot
-        ++ trace.owned_text table.now spot stamp.now.ticks after.now)) }
-{
-    let mut piece = Piece::new();
-    add_ended(&mut piece, spot, stamp, before.is_some());
-    add_owner(&mut piece, table, spot, stamp, after);
-    text.extend_from_slice(piece.as_slice())
-}
-
-/// Puts the changes on the track of a mutex.
-#[inline(always)]
-fn put_mutex(
-    text: &mut Vec<u8>,
+#[tactic(auto, using(std::proofs::Common::append_assoc))]
+fn add_handover(
+    piece: &mut Piece,
     table: &Table,
     mutex: MutexId,
     time: u64,
     stamp: &Stamp,
     before: &Option<ProcessId>,
     after: &Option<ProcessId>,
-) -> Result<(), AllocError>
-    requires { IsStamp stamp.now time }
-    ensures { OnOk result (text.new.items ≡ text.old.items ++ trace.mutex_text table.now
-        (trace.mutex_spot mutex time) stamp.now.ticks before.now after.now) }
+)
+    requires stamp { IsStamp stamp.now time }
+    requires room { array_vec_len piece.old + TRACK ≤ PIECE_ROOM }
+    ensures text { piece.new.items ≡ piece.old.items
+        ++ (trace.ended (is_some before.now) (trace.mutex_spot mutex time)
+        ++ trace.owned_text table.now (trace.mutex_spot mutex time) stamp.now.ticks after.now) }
+    ensures short { array_vec_len piece.new ≤ array_vec_len piece.old + TRACK }
+{
+    let spot = mutex_spot(mutex, time);
+    add_ended(piece, spot, stamp, before.is_some());
+    add_owner(piece, table, spot, stamp, after);
+}
+
+/// Adds the changes on the track of a mutex.
+#[inline(always)]
+fn add_mutex(
+    piece: &mut Piece,
+    table: &Table,
+    mutex: MutexId,
+    time: u64,
+    stamp: &Stamp,
+    before: &Option<ProcessId>,
+    after: &Option<ProcessId>,
+)
+    requires stamp { IsStamp stamp.now time }
+    requires room { array_vec_len piece.old + TRACK ≤ PIECE_ROOM }
+    ensures text { piece.new.items ≡ piece.old.items ++ trace.mutex_text table.now
+        (trace.mutex_spot mutex time) stamp.now.ticks before.now after.now }
+    ensures short { array_vec_len piece.new ≤ array_vec_len piece.old + TRACK }
 {
     if is_same_process(before, after) {
-        return Ok(());
+        return;
     }
-    put_handover(text, table, mutex_spot(mutex, time), stamp, before, after)
+    let (old, new) = (*before, *after);
+    add_handover(piece, table, mutex, time, stamp, &old, &new);
 }
 
 /// The owner at a place; none if there is no such mutex.
@@ -122,55 +130,50 @@ fn owner_at(owners: &[Option<ProcessId>], place: usize) -> Option<ProcessId>
     }
 }
 
-/// Brings the owners up to the processes of a store, and puts the changes on the tracks of the
+/// Brings the owners up to the processes of a store, and adds the changes on the tracks of the
 /// mutexes.
-pub(crate) fn put_mutexes<S: Store>(
-    text: &mut Vec<u8>,
+pub(crate) fn add_mutexes<S: Store>(
+    piece: &mut Piece,
     table: &Table,
     store: &S,
     time: u64,
     stamp: &Stamp,
     owners: &mut [Option<ProcessId>],
-) -> Result<(), AllocError>
+)
     requires stamp { IsStamp stamp.now time }
     requires many { length owners.old ≡ length table.now.mutexes }
-    ensures text { OnOk result (text.new.items ≡ text.old.items
+    requires room { array_vec_len piece.old + TRACK * MOST_OBJECTS ≤ PIECE_ROOM }
+    ensures text { piece.new.items ≡ piece.old.items
         ++ trace.mutexes_text table.now time stamp.now.ticks owners.old
-        (owners_in table.now (S.roster store.now))) }
-    ensures owners { OnOk result (owners.new ≡ owners_in table.now (S.roster store.now)) }
+        (owners_in table.now (S.roster store.now)) }
+    ensures owners { owners.new ≡ owners_in table.now (S.roster store.now) }
+    ensures short { array_vec_len piece.new ≤ array_vec_len piece.old + TRACK * MOST_OBJECTS }
 {
     for place in 0..table.mutex_count() {
         let mutex = MutexId::at(place as u8);
         let (before, after) = (owner_at(owners, place), store.owner(mutex));
-        put_mutex(text, table, mutex, time, stamp, &before, &after)?;
+        add_mutex(piece, table, mutex, time, stamp, &before, &after);
         owners[place] = after;
     }
-    Ok(())
 }
 
-/// Puts the ends of the slices of all mutexes.
-pub(crate) fn put_mutex_ends(
-    text: &mut Vec<u8>,
+/// Adds the ends of the slices of all mutexes.
+pub(crate) fn add_mutex_ends(
+    piece: &mut Piece,
     table: &Table,
     time: u64,
     stamp: &Stamp,
     last: &[Option<ProcessId>],
-) -> Result<(), AllocError>
-    requires { IsStamp stamp.now time }
-    ensures { OnOk result (text.new.items ≡ text.old.items
-        ++ trace.mutexes_text table.now time stamp.now.ticks last.now []) }
+)
+    requires stamp { IsStamp stamp.now time }
+    requires room { array_vec_len piece.old + TRACK * MOST_OBJECTS ≤ PIECE_ROOM }
+    ensures text { piece.new.items ≡ piece.old.items
+        ++ trace.mutexes_text table.now time stamp.now.ticks last.now [] }
+    ensures short { array_vec_len piece.new ≤ array_vec_len piece.old + TRACK * MOST_OBJECTS }
 {
     for place in 0..table.mutex_count() {
         let before = owner_at(last, place);
-        put_mutex(
-            text,
-            table,
-            MutexId::at(place as u8),
-            time,
-            stamp,
-            &before,
-            &None,
-        )?;
+        let mutex = MutexId::at(place as u8);
+        add_mutex(piece, table, mutex, time, stamp, &before, &None);
     }
-    Ok(())
 }

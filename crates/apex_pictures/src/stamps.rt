@@ -1,100 +1,109 @@
 //! The texts of a slice's end and of its beginning, before the number of its track and behind it.
-ghost use Rattle.std.specs.Prelude.{◌≡◌, ◌≤◌, length};
+ghost use Rattle.std.specs.Prelude.{◌≡◌, ◌+◌, ◌≤◌, ◌++◌, length};
+ghost use Rattle.arrayvec.specs.ArrayVec.{array_vec_len};
 ghost use Rattle.apex_pictures.specs.Stamps.{IsGroup, IsStamp, begin_front, end_front};
-ghost use Rattle.apex_pictures.specs.declared.stamps.TheConstants.{BEGIN_ROOM, END_ROOM, FRONT};
+ghost use Rattle.apex_pictures.specs.declared.pieces.TheConstants.{PIECE_ROOM};
+ghost use Rattle.apex_pictures.specs.declared.stamps.TheConstants.{BEGIN_ROOM, FRONT, TIMED};
 
-use crate::instants::{DIGITS, TIME_ROOM, time_text};
-use arrayvec::ArrayString;
-use itoa::Buffer;
+use crate::instants::{TIME_ROOM, add_time};
+use crate::pieces::{DIGITS, Piece, add_bytes, add_number, add_text};
+use arrayvec::ArrayVec;
 
 /// The bytes before the number of a track.
 pub(crate) const FRONT: usize = 26;
 
-/// The most bytes behind the number of a track at the end of a slice.
-pub(crate) const END_ROOM: usize = TIME_ROOM + 7;
+/// The most bytes of the time behind the number of a track.
+pub(crate) const TIMED: usize = TIME_ROOM + 6;
 
-/// The same at the beginning of a slice.
-pub(crate) const BEGIN_ROOM: usize = TIME_ROOM + DIGITS + 31;
+/// The most bytes behind the number of a track at the beginning of a slice.
+pub(crate) const BEGIN_ROOM: usize = TIMED + DIGITS + 25;
 
 /// The time of an entry, and its texts, which are the same in all slices.
 #[derive(Drop)]
 pub(crate) struct Stamp {
     /// The partition's time in ticks.
     ticks: u64,
-    /// What is behind the number of a track at the end of a slice.
-    end: ArrayString<END_ROOM>,
-    /// The same at the beginning of a slice, up to its name.
-    begin: ArrayString<BEGIN_ROOM>,
+    /// The time on the trace's axis, as it stands behind the number of a track.
+    time: ArrayVec<u8, TIMED>,
+    /// What is behind the number of a track at the beginning of a slice, up to its name.
+    begin: ArrayVec<u8, BEGIN_ROOM>,
 }
 
 impl Stamp {
     /// The stamp of this time on the trace's axis, and of this time in ticks.
+    #[tactic(auto, using(std::proofs::Common::append_assoc))]
     pub(crate) fn new(time: u64, ticks: u64) -> Stamp
         ensures stamp { IsStamp result time }
         ensures ticks { result.ticks ≡ ticks }
     {
-        let mut tick_digits = Buffer::new();
-        let time = time_text(time);
-        let mut end = ArrayString::new();
-        end.push_str(",\"ts\":");
-        end.push_str(time.as_str());
-        end.push_str("}");
-        let mut begin = ArrayString::new();
-        begin.push_str(",\"ts\":");
-        begin.push_str(time.as_str());
-        begin.push_str(",\"args\":{\"now\":");
-        begin.push_str(tick_digits.format(ticks));
-        begin.push_str("},\"name\":\"");
-        Stamp { ticks, end, begin }
+        let mut timed = ArrayVec::new();
+        add_text(&mut timed, *b",\"ts\":");
+        add_time(&mut timed, time);
+        let mut begin = ArrayVec::new();
+        add_bytes(&mut begin, timed.as_slice());
+        add_text(&mut begin, *b",\"args\":{\"now\":");
+        add_number(&mut begin, ticks);
+        add_text(&mut begin, *b"},\"name\":\"");
+        Stamp {
+            ticks,
+            time: timed,
+            begin,
+        }
     }
 
-    /// What is behind the number of a track at the end of a slice.
+    /// The time, as it stands behind the number of a track.
     #[inline(always)]
-    pub(crate) fn end(&self) -> &str
-        ensures value { result.now ≡ self.now.end.bytes }
-        ensures short { length result.now ≤ END_ROOM }
+    pub(crate) fn time(&self) -> &[u8]
+        ensures value { result.now ≡ self.now.time.items }
+        ensures short { length result.now ≤ TIMED }
     {
-        self.end.as_str()
+        self.time.as_slice()
     }
 
     /// What is behind the number of a track at the beginning of a slice, up to its name.
     #[inline(always)]
-    pub(crate) fn begin(&self) -> &str
-        ensures value { result.now ≡ self.now.begin.bytes }
+    pub(crate) fn begin(&self) -> &[u8]
+        ensures value { result.now ≡ self.now.begin.items }
         ensures short { length result.now ≤ BEGIN_ROOM }
     {
-        self.begin.as_str()
+        self.begin.as_slice()
     }
 }
 
-/// What is before the number of a track of a group at the end of a slice.
+/// Adds what is before the number of a track of a group at the end of a slice.
 #[inline(always)]
-pub(crate) fn end_front(group: u8) -> &'static str
-    requires { IsGroup group }
-    ensures value { result.now ≡ end_front group }
-    ensures len { length result.now ≡ FRONT }
+pub(crate) fn add_end_front(piece: &mut Piece, group: u8)
+    requires group { IsGroup group }
+    requires room { array_vec_len piece.old + FRONT ≤ PIECE_ROOM }
+    ensures text { piece.new.items ≡ piece.old.items ++ end_front group }
+    ensures len { array_vec_len piece.new ≡ array_vec_len piece.old + FRONT }
 {
     if group == 1 {
-        return ",\n{\"ph\":\"E\",\"pid\":1,\"tid\":";
+        add_text(piece, *b",\n{\"ph\":\"E\",\"pid\":1,\"tid\":");
+        return;
     }
     if group == 2 {
-        return ",\n{\"ph\":\"E\",\"pid\":2,\"tid\":";
+        add_text(piece, *b",\n{\"ph\":\"E\",\"pid\":2,\"tid\":");
+        return;
     }
-    ",\n{\"ph\":\"E\",\"pid\":3,\"tid\":"
+    add_text(piece, *b",\n{\"ph\":\"E\",\"pid\":3,\"tid\":");
 }
 
-/// What is before the number of a track of a group at the beginning of a slice.
+/// Adds what is before the number of a track of a group at the beginning of a slice.
 #[inline(always)]
-pub(crate) fn begin_front(group: u8) -> &'static str
-    requires { IsGroup group }
-    ensures value { result.now ≡ begin_front group }
-    ensures len { length result.now ≡ FRONT }
+pub(crate) fn add_begin_front(piece: &mut Piece, group: u8)
+    requires group { IsGroup group }
+    requires room { array_vec_len piece.old + FRONT ≤ PIECE_ROOM }
+    ensures text { piece.new.items ≡ piece.old.items ++ begin_front group }
+    ensures len { array_vec_len piece.new ≡ array_vec_len piece.old + FRONT }
 {
     if group == 1 {
-        return ",\n{\"ph\":\"B\",\"pid\":1,\"tid\":";
+        add_text(piece, *b",\n{\"ph\":\"B\",\"pid\":1,\"tid\":");
+        return;
     }
     if group == 2 {
-        return ",\n{\"ph\":\"B\",\"pid\":2,\"tid\":";
+        add_text(piece, *b",\n{\"ph\":\"B\",\"pid\":2,\"tid\":");
+        return;
     }
-    ",\n{\"ph\":\"B\",\"pid\":3,\"tid\":"
+    add_text(piece, *b",\n{\"ph\":\"B\",\"pid\":3,\"tid\":");
 }

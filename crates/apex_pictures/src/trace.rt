@@ -1,34 +1,36 @@
 //! A picture as a trace in the Trace Event Format, which is JSON: tracks of the cores, of the
 //! processes and of the mutexes, and counters of the other objects. A tick is 1,000 units of the axis; times are hundredths
 //! of a unit, and the partition's time is an argument too.
-ghost use Rattle.std.specs.Prelude.{◌≡◌, ◌+◌, ◌≤◌, ◌++◌, flat_map, is_some, length, map, OnOk};
+ghost use Rattle.std.specs.Prelude.{◌≡◌, ◌+◌, ◌*◌, ◌≤◌, ◌++◌, [], flat_map, is_some, length, map, OnOk};
 ghost use Rattle.arrayvec.specs.ArrayVec.{array_vec_len};
 ghost use Rattle.apex_machine.specs.text.Listing.{texts_of};
-ghost use Rattle.apex_types.specs.declared.limits.TheConstants.{MOST_CORES};
+ghost use Rattle.apex_types.specs.declared.limits.TheConstants.{MOST_CORES, MOST_OBJECTS, MOST_PROCESSES};
 ghost use Rattle.apex_pictures.specs.Counts.{HasCounts};
 ghost use Rattle.apex_pictures.specs.Moments.{moment_in, none_shown, running_in, with_cells, with_running};
 ghost use Rattle.apex_pictures.specs.Places.{of_places};
 ghost use Rattle.apex_pictures.specs.Stamps.{IsStamp, Stamps};
 ghost use Rattle.apex_pictures.specs.Trace as trace;
-ghost use Rattle.apex_pictures.specs.declared.pieces.TheConstants.{PIECE_ROOM};
-ghost use Rattle.apex_pictures.specs.declared.trace.TheConstants.{BEGIN, END, NAME};
-ghost use Rattle.apex_pictures.specs.declared.waits.TheConstants.{WAITING};
+ghost use Rattle.apex_pictures.specs.declared.pieces.TheConstants.{PIECE_ROOM, TRACK};
+ghost use Rattle.apex_pictures.specs.declared.trace.TheConstants.{BEGIN, END, MARK_DETAIL, MARK_WORD, NAME};
+ghost use Rattle.apex_pictures.specs.Beings.{is_begun};
+ghost use Rattle.apex_pictures.specs.declared.beings.TheConstants.{BEING_ROOM};
 ghost use Rattle.apex_pictures.specs.Tracks.{bare, bare_cells, cell_on, track_of};
 
+use crate::beings::{BEING_ROOM, Being, add_being_name, is_begun, is_same_being};
 use crate::counters::put_first_counts;
 use crate::moments::{CORES, running_at};
-use crate::mutexes::{put_mutex_ends, put_mutex_names};
-use crate::pieces::{Piece, add, add_number, add_text};
-use crate::stamps::{BEGIN_ROOM, END_ROOM, FRONT, Stamp, begin_front, end_front};
+use crate::mutexes::{add_mutex_ends, put_mutex_names};
+use crate::pieces::{DIGITS, Piece, TRACK, add, add_bytes, add_number, add_text};
+use crate::stamps::{BEGIN_ROOM, FRONT, Stamp, TIMED, add_begin_front, add_end_front};
 use crate::texts::{Part, put, put_all};
-use crate::tracks::{Track, Tracks, track_at, track_of};
-use crate::waits::{WAITING, add_waiting, are_same_things};
-use crate::words::{code_word, deadline_word, id_part, name_of, put_id};
+use crate::tracks::{Tracks, is_still, track_at, track_by};
+use crate::words::{code_word, deadline_word, id_part, name_of};
 use apex_dispatch::Kernel;
 use apex_json::{MOST_ESCAPE, add_json};
 use apex_store::Store;
 use apex_table::Table;
-use apex_types::{CoreId, LentEntry, MOST_NAME, MutexId, Notice, ProcessId, State};
+use apex_types::{CoreId, LentEntry, MOST_NAME, MutexId, Notice, ProcessId};
+use arrayvec::ArrayVec;
 use std::alloc::AllocError;
 
 /// The place of a slice or a mark in a trace: its group, its track and its time.
@@ -127,14 +129,23 @@ pub(crate) fn put_head(text: &mut Vec<u8>, table: &Table, first: &Tracks) -> Res
 }
 
 /// The most bytes of the end of a slice: the front, the number of the track and the back.
-const END: usize = FRONT + 10 + END_ROOM;
+const END: usize = FRONT + DIGITS + TIMED + 1;
 
 /// The most bytes of the beginning of a slice, up to its name.
-pub(crate) const BEGIN: usize = FRONT + 10 + BEGIN_ROOM;
+pub(crate) const BEGIN: usize = FRONT + DIGITS + BEGIN_ROOM;
 
 /// The most bytes of the name of a slice and of what is behind it: the number of a process, and its
 /// name, of which JSON escapes each byte at the most.
-pub(crate) const NAME: usize = 10 + 1 + MOST_ESCAPE * MOST_NAME + 2;
+pub(crate) const NAME: usize = DIGITS + 1 + MOST_ESCAPE * MOST_NAME + 2;
+
+/// The most bytes of a mark: the front, the number of its track, the time and the two words.
+const MARK: usize = 35 + DIGITS + BEGIN_ROOM + MARK_WORD + MARK_DETAIL + 2;
+
+/// The most bytes of the word of a mark, with the space behind it.
+const MARK_WORD: usize = 8;
+
+/// The most bytes of the detail of a mark.
+const MARK_DETAIL: usize = 14;
 
 /// Adds the end of a slice.
 #[inline(always)]
@@ -144,9 +155,10 @@ fn add_end(piece: &mut Piece, spot: Spot, stamp: &Stamp)
     ensures text { piece.new.items ≡ piece.old.items ++ trace.end_text spot }
     ensures short { array_vec_len piece.new ≤ array_vec_len piece.old + END }
 {
-    add(piece, end_front(spot.group));
-    add_number(piece, spot.track);
-    add(piece, stamp.end());
+    add_end_front(piece, spot.group);
+    add_number(piece, u64::from(spot.track));
+    add_bytes(piece, stamp.time());
+    add_text(piece, *b"}");
 }
 
 /// Adds the beginning of a slice, up to its name.
@@ -157,9 +169,9 @@ pub(crate) fn add_begin(piece: &mut Piece, spot: Spot, stamp: &Stamp)
     ensures text { piece.new.items ≡ piece.old.items ++ trace.begin_text spot stamp.now.ticks }
     ensures short { array_vec_len piece.new ≤ array_vec_len piece.old + BEGIN }
 {
-    add(piece, begin_front(spot.group));
-    add_number(piece, spot.track);
-    add(piece, stamp.begin());
+    add_begin_front(piece, spot.group);
+    add_number(piece, u64::from(spot.track));
+    add_bytes(piece, stamp.begin());
 }
 
 /// Adds the name of the slice of a process that a core runs.
@@ -170,7 +182,7 @@ fn add_run_name(piece: &mut Piece, table: &Table, process: ProcessId)
     ensures text { piece.new.items ≡ piece.old.items ++ trace.run_name_text table.now process }
     ensures short { array_vec_len piece.new ≤ array_vec_len piece.old + NAME }
 {
-    add_number(piece, process.number());
+    add_number(piece, u64::from(process.number()));
     add_text(piece, *b" ");
     add_json(piece, name_of(table, process));
     add_text(piece, *b"\"}");
@@ -188,8 +200,9 @@ fn add_running(
 )
     requires stamps { Stamps stamp.now spot }
     requires room { array_vec_len piece.old + BEGIN + NAME ≤ PIECE_ROOM }
-    ensures { piece.new.items ≡ piece.old.items
+    ensures text { piece.new.items ≡ piece.old.items
         ++ trace.run_of table.now spot stamp.now.ticks running.now }
+    ensures short { array_vec_len piece.new ≤ array_vec_len piece.old + BEGIN + NAME }
 {
     if let Some(process) = running {
         add_begin(piece, spot, stamp);
@@ -197,27 +210,20 @@ fn add_running(
     }
 }
 
-/// Adds the slice of the state that a process enters, with its wait; DORMANT has no slice.
+/// Adds the slice of a process; a dormant one has none.
 #[inline(always)]
 #[tactic(auto, using(std::proofs::Common::append_assoc))]
-fn add_being(piece: &mut Piece, table: &Table, spot: Spot, stamp: &Stamp, track: &Track)
+fn add_being(piece: &mut Piece, table: &Table, spot: Spot, stamp: &Stamp, being: &Being)
     requires stamps { Stamps stamp.now spot }
-    requires room { array_vec_len piece.old + BEGIN + WAITING + 2 ≤ PIECE_ROOM }
-    ensures { piece.new.items ≡ piece.old.items
-        ++ trace.being_text table.now spot stamp.now.ticks track.now.state track.now.wait }
+    requires room { array_vec_len piece.old + BEGIN + BEING_ROOM + 2 ≤ PIECE_ROOM }
+    ensures text { piece.new.items ≡ piece.old.items
+        ++ trace.being_text table.now spot stamp.now.ticks being.now }
+    ensures short { array_vec_len piece.new ≤ array_vec_len piece.old + BEGIN + BEING_ROOM + 2 }
 {
-    if let State::Dormant = track.state {
-        return;
-    }
-    add_begin(piece, spot, stamp);
-    match track.state {
-        State::Dormant => unreachable!(),
-        State::Ready => add_text(piece, *b"READY\"}"),
-        State::Running => add_text(piece, *b"RUNNING\"}"),
-        State::Waiting => {
-            add_waiting(piece, table, &track.wait);
-            add_text(piece, *b"\"}");
-        }
+    if is_begun(being) {
+        add_begin(piece, spot, stamp);
+        add_being_name(piece, table, being);
+        add_text(piece, *b"\"}");
     }
 }
 
@@ -247,122 +253,102 @@ pub(crate) fn is_same_process(before: &Option<ProcessId>, after: &Option<Process
     }
 }
 
-/// Puts the end of the slice on the track of a core, and the beginning of the next one.
+/// Adds the end of the slice on the track of a core, and the beginning of the next one.
 // Not inlined, as on most tracks an entry changes nothing.
 #[inline(never)]
-fn put_switch(
-    text: &mut Vec<u8>,
-    table: &Table,
-    spot: Spot,
-    stamp: &Stamp,
-    before: &Option<ProcessId>,
-    after: &Option<ProcessId>,
-) -> Result<(), AllocError>
-    requires { Stamps stamp.now spot }
-    ensures { OnOk result (text.new.items ≡ text.old.items
-        ++ (trace.ended (is_some before.now) spot
-        ++ trace.run_of table.now spot stamp.now.ticks after.now)) }
-{
-    let mut piece = Piece::new();
-    add_ended(&mut piece, spot, stamp, before.is_some());
-    add_running(&mut piece, table, spot, stamp, after);
-    text.extend_from_slice(piece.as_slice())
-}
-
-/// Puts the changes on the track of a core.
-#[inline(always)]
-fn put_core(
-    text: &mut Vec<u8>,
+#[tactic(auto, using(std::proofs::Common::append_assoc))]
+fn add_switch(
+    piece: &mut Piece,
     table: &Table,
     core: CoreId,
     time: u64,
     stamp: &Stamp,
     before: &Option<ProcessId>,
     after: &Option<ProcessId>,
-) -> Result<(), AllocError>
-    requires { IsStamp stamp.now time }
-    ensures { OnOk result (text.new.items ≡ text.old.items ++ trace.core_text table.now
-        (trace.core_spot core time) stamp.now.ticks before.now after.now) }
+)
+    requires stamp { IsStamp stamp.now time }
+    requires room { array_vec_len piece.old + TRACK ≤ PIECE_ROOM }
+    ensures text { piece.new.items ≡ piece.old.items
+        ++ (trace.ended (is_some before.now) (trace.core_spot core time)
+        ++ trace.run_of table.now (trace.core_spot core time) stamp.now.ticks after.now) }
+    ensures short { array_vec_len piece.new ≤ array_vec_len piece.old + TRACK }
+{
+    let spot = core_spot(core, time);
+    add_ended(piece, spot, stamp, before.is_some());
+    add_running(piece, table, spot, stamp, after);
+}
+
+/// Adds the changes on the track of a core.
+#[inline(always)]
+fn add_core(
+    piece: &mut Piece,
+    table: &Table,
+    core: CoreId,
+    time: u64,
+    stamp: &Stamp,
+    before: &Option<ProcessId>,
+    after: &Option<ProcessId>,
+)
+    requires stamp { IsStamp stamp.now time }
+    requires room { array_vec_len piece.old + TRACK ≤ PIECE_ROOM }
+    ensures text { piece.new.items ≡ piece.old.items ++ trace.core_text table.now
+        (trace.core_spot core time) stamp.now.ticks before.now after.now }
+    ensures short { array_vec_len piece.new ≤ array_vec_len piece.old + TRACK }
 {
     if is_same_process(before, after) {
-        return Ok(());
+        return;
     }
-    put_switch(text, table, core_spot(core, time), stamp, before, after)
+    // Copies, so that only a change takes their place in memory.
+    let (old, new) = (*before, *after);
+    add_switch(piece, table, core, time, stamp, &old, &new);
 }
 
-#[inline(always)]
-fn is_same_state(before: State, after: State) -> bool
-    ensures { result ≡ trace.same_state before after }
-{
-    before == after
-}
-
-/// Two slices of a process are one.
-#[inline(always)]
-fn is_same_being(before: &Track, after: &Track) -> bool
-    ensures { result ≡ trace.same_being (cell_on before.now) (cell_on after.now) }
-{
-    is_same_state(before.state, after.state) && are_same_things(&before.wait, &after.wait)
-}
-
-fn is_begun(state: State) -> bool
-    ensures { result ≡ trace.is_begun state }
-{
-    match state {
-        State::Dormant => false,
-        State::Ready | State::Running | State::Waiting => true,
-    }
-}
-
-/// Puts the end of the slice on the track of a process, and the beginning of the next one.
+/// Adds the end of the slice on the track of a process, and the beginning of the next one.
 // Not inlined, as on most tracks an entry changes nothing.
 #[inline(never)]
-fn put_change(
-    text: &mut Vec<u8>,
-    table: &Table,
-    spot: Spot,
-    stamp: &Stamp,
-    before: &Track,
-    after: &Track,
-) -> Result<(), AllocError>
-    requires { Stamps stamp.now spot }
-    ensures { OnOk result (text.new.items ≡ text.old.items
-        ++ (trace.ended (trace.is_begun before.now.state) spot
-        ++ trace.being_text table.now spot stamp.now.ticks after.now.state after.now.wait)) }
-{
-    let mut piece = Piece::new();
-    add_ended(&mut piece, spot, stamp, is_begun(before.state));
-    add_being(&mut piece, table, spot, stamp, after);
-    text.extend_from_slice(piece.as_slice())
-}
-
-/// Puts the changes on the track of a process.
-#[inline(always)]
-fn put_process(
-    text: &mut Vec<u8>,
+#[tactic(auto, using(std::proofs::Common::append_assoc))]
+fn add_change(
+    piece: &mut Piece,
     table: &Table,
     process: ProcessId,
     time: u64,
     stamp: &Stamp,
-    before: &Track,
-    after: &Track,
-) -> Result<(), AllocError>
-    requires { IsStamp stamp.now time }
-    ensures { OnOk result (text.new.items ≡ text.old.items ++ trace.process_text table.now
-        (trace.process_spot process time) stamp.now.ticks (cell_on before.now)
-        (cell_on after.now)) }
+    before: &Being,
+    after: &Being,
+)
+    requires stamp { IsStamp stamp.now time }
+    requires room { array_vec_len piece.old + TRACK ≤ PIECE_ROOM }
+    ensures text { piece.new.items ≡ piece.old.items
+        ++ (trace.ended (is_begun before.now) (trace.process_spot process time)
+        ++ trace.being_text table.now (trace.process_spot process time) stamp.now.ticks after.now) }
+    ensures short { array_vec_len piece.new ≤ array_vec_len piece.old + TRACK }
+{
+    let spot = process_spot(process, time);
+    add_ended(piece, spot, stamp, is_begun(before));
+    add_being(piece, table, spot, stamp, after);
+}
+
+/// Adds the changes on the track of a process.
+#[inline(always)]
+fn add_process(
+    piece: &mut Piece,
+    table: &Table,
+    process: ProcessId,
+    time: u64,
+    stamp: &Stamp,
+    before: &Being,
+    after: &Being,
+)
+    requires stamp { IsStamp stamp.now time }
+    requires room { array_vec_len piece.old + TRACK ≤ PIECE_ROOM }
+    ensures text { piece.new.items ≡ piece.old.items ++ trace.process_text table.now
+        (trace.process_spot process time) stamp.now.ticks before.now after.now }
+    ensures short { array_vec_len piece.new ≤ array_vec_len piece.old + TRACK }
 {
     if is_same_being(before, after) {
-        return Ok(());
+        return;
     }
-    put_change(
-        text,
-        table,
-        process_spot(process, time),
-        stamp,
-        before,
-        after,
-    )
+    add_change(piece, table, process, time, stamp, before, after);
 }
 
 /// The track of a core.
@@ -398,119 +384,115 @@ pub(crate) fn mutex_spot(mutex: MutexId, time: u64) -> Spot
     }
 }
 
-/// Puts the changes on the tracks of the cores, by the process that each core ran before and the
+/// Adds the changes on the tracks of the cores, by the process that each core ran before and the
 /// one that it runs now.
-pub(crate) fn put_cores(
-    text: &mut Vec<u8>,
+fn add_cores(
+    piece: &mut Piece,
     table: &Table,
     time: u64,
     stamp: &Stamp,
     before: &[Option<ProcessId>],
     after: &[Option<ProcessId>],
-) -> Result<(), AllocError>
-    requires { IsStamp stamp.now time }
-    ensures { OnOk result (text.new.items ≡ text.old.items
+)
+    requires stamp { IsStamp stamp.now time }
+    requires room { array_vec_len piece.old + TRACK * MOST_CORES ≤ PIECE_ROOM }
+    ensures text { piece.new.items ≡ piece.old.items
         ++ texts_of (trace.core_at table.now time stamp.now.ticks (with_running before.now)
-        (with_running after.now)) table.now.cores) }
+        (with_running after.now)) table.now.cores }
+    ensures short { array_vec_len piece.new ≤ array_vec_len piece.old + TRACK * MOST_CORES }
 {
     for place in 0..table.cores() {
         let core = CoreId::new(place);
         let (old, new) = (running_at(before, core), running_at(after, core));
-        put_core(text, table, core, time, stamp, &old, &new)?;
+        add_core(piece, table, core, time, stamp, &old, &new);
     }
-    Ok(())
 }
 
-/// Takes the process that each core runs from a store, and puts the changes on the tracks of the
+/// Takes the process that each core runs from a store, and adds the changes on the tracks of the
 /// cores.
-pub(crate) fn put_runs<S: Store>(
-    text: &mut Vec<u8>,
+#[inline(never)]
+pub(crate) fn add_runs<S: Store>(
+    piece: &mut Piece,
     table: &Table,
     store: &S,
     time: u64,
     stamp: &Stamp,
     running: &mut [Option<ProcessId>],
-) -> Result<(), AllocError>
+)
     requires stamp { IsStamp stamp.now time }
     requires many { length running.old ≡ MOST_CORES }
-    ensures text { OnOk result (text.new.items ≡ text.old.items
+    requires room { array_vec_len piece.old + TRACK * MOST_CORES ≤ PIECE_ROOM }
+    ensures text { piece.new.items ≡ piece.old.items
         ++ texts_of (trace.core_at table.now time stamp.now.ticks (with_running running.old)
-        (with_running (running_in (S.roster store.now)))) table.now.cores) }
-    ensures running { OnOk result (running.new ≡ running_in (S.roster store.now)) }
+        (with_running (running_in (S.roster store.now)))) table.now.cores }
+    ensures running { running.new ≡ running_in (S.roster store.now) }
+    ensures short { array_vec_len piece.new ≤ array_vec_len piece.old + TRACK * MOST_CORES }
 {
     for place in 0..table.cores() {
         let core = CoreId::new(place);
-        let (before, after) = (running_at(running, core), store.chosen(core));
-        put_core(text, table, core, time, stamp, &before, &after)?;
+        let (before, after) = (running[usize::from(place)], store.chosen(core));
+        add_core(piece, table, core, time, stamp, &before, &after);
         running[usize::from(place)] = after;
     }
     // The table has no core from here on.
     for place in table.cores()..CORES as u8 {
         running[usize::from(place)] = store.chosen(CoreId::new(place));
     }
-    Ok(())
 }
 
-/// Brings the tracks up to the processes of a store, and puts the changes on them.
-pub(crate) fn put_processes<S: Store>(
-    text: &mut Vec<u8>,
+/// Brings the tracks up to the processes of a store, and adds the changes on them.
+#[inline(never)]
+pub(crate) fn add_processes<S: Store>(
+    piece: &mut Piece,
     table: &Table,
     store: &S,
     running: &[Option<ProcessId>],
     time: u64,
     stamp: &Stamp,
-    tracks: &mut [Track],
-) -> Result<(), AllocError>
+    tracks: &mut [Being],
+)
     requires stamp { IsStamp stamp.now time }
     requires running { running.now ≡ running_in (S.roster store.now) }
     requires many { length tracks.old ≡ length (S.roster store.now).records }
-    ensures text { OnOk result (text.new.items ≡ text.old.items
+    requires room { array_vec_len piece.old + TRACK * MOST_PROCESSES ≤ PIECE_ROOM }
+    ensures text { piece.new.items ≡ piece.old.items
         ++ texts_of (trace.process_at table.now time stamp.now.ticks
         (with_cells (map cell_on tracks.old)) (with_cells (bare_cells (S.roster store.now))))
-        (length (S.roster store.now).records)) }
-    ensures tracks { OnOk result (tracks.new
-        ≡ of_places (track_of (S.roster store.now)) (length (S.roster store.now).records)) }
+        (length (S.roster store.now).records) }
+    ensures tracks { tracks.new
+        ≡ of_places (track_of (S.roster store.now)) (length (S.roster store.now).records) }
+    ensures short { array_vec_len piece.new ≤ array_vec_len piece.old + TRACK * MOST_PROCESSES }
 {
     for place in 0..store.process_count() {
         let process = ProcessId::at(place as u8);
-        let track = track_of(store, process, running);
-        let before = track_at(tracks, place);
-        put_process(text, table, process, time, stamp, &before, &track)?;
-        tracks[place] = track;
+        let fields = store.record(process);
+        let before = tracks[place];
+        if !is_still(store, process, fields, running, &before) {
+            let track = track_by(store, process, fields, running);
+            add_process(piece, table, process, time, stamp, &before, &track);
+            tracks[place] = track;
+        }
     }
-    Ok(())
 }
 
-/// Puts the ends of the slices of all processes.
-fn put_ends(
-    text: &mut Vec<u8>,
-    table: &Table,
-    time: u64,
-    stamp: &Stamp,
-    last: &[Track],
-) -> Result<(), AllocError>
-    requires { IsStamp stamp.now time }
-    ensures { OnOk result (text.new.items ≡ text.old.items
+/// Adds the ends of the slices of all processes.
+fn add_ends(piece: &mut Piece, table: &Table, time: u64, stamp: &Stamp, last: &[Being])
+    requires stamp { IsStamp stamp.now time }
+    requires room { array_vec_len piece.old + TRACK * MOST_PROCESSES ≤ PIECE_ROOM }
+    ensures text { piece.new.items ≡ piece.old.items
         ++ texts_of (trace.process_at table.now time stamp.now.ticks
-        (with_cells (map cell_on last.now)) none_shown) (length table.now.processes)) }
+        (with_cells (map cell_on last.now)) none_shown) (length table.now.processes) }
+    ensures short { array_vec_len piece.new ≤ array_vec_len piece.old + TRACK * MOST_PROCESSES }
 {
     for place in 0..table.process_count() {
         let process = ProcessId::at(place as u8);
         let before = track_at(last, place);
-        put_process(
-            text,
-            table,
-            process,
-            time,
-            stamp,
-            &before,
-            &Track::default(),
-        )?;
+        add_process(piece, table, process, time, stamp, &before, &Being::Dormant);
     }
-    Ok(())
 }
 
 /// Puts the mark of a notice on the track of a process, by the two words of its name.
+#[tactic(auto, using(std::proofs::Common::append_assoc))]
 fn put_mark(
     text: &mut Vec<u8>,
     time: u64,
@@ -519,16 +501,23 @@ fn put_mark(
     word: &str,
     detail: &str,
 ) -> Result<(), AllocError>
-    requires { IsStamp stamp.now time }
+    requires stamp { IsStamp stamp.now time }
+    requires word { length word.now ≤ MARK_WORD }
+    requires detail { length detail.now ≤ MARK_DETAIL }
     ensures { OnOk result (text.new.items ≡ text.old.items
         ++ trace.mark_text time stamp.now.ticks process word.now detail.now) }
 {
-    put(text, ",\n{\"ph\":\"i\",\"s\":\"t\",\"pid\":2,\"tid\":")?;
-    put_id(text, process)?;
-    put(text, stamp.begin())?;
-    put(text, word)?;
-    put(text, detail)?;
-    put(text, "\"}")
+    let mut mark: ArrayVec<u8, MARK> = ArrayVec::new();
+    add_text(
+        &mut mark,
+        *b",\n{\"ph\":\"i\",\"s\":\"t\",\"pid\":2,\"tid\":",
+    );
+    add_number(&mut mark, u64::from(process.number()));
+    add_bytes(&mut mark, stamp.begin());
+    add(&mut mark, word);
+    add(&mut mark, detail);
+    add_text(&mut mark, *b"\"}");
+    text.extend_from_slice(mark.as_slice())
 }
 
 /// Puts the mark of a notice: its word, and the code or the type of the deadline.
@@ -599,10 +588,23 @@ pub(crate) fn put_column<S: Store>(
     let table = kernel.table();
     let stamp = Stamp::new(time, entry.now);
     let objects = kernel.situation().objects();
-    let store = kernel.store();
-    shown.put_changes(text, table, store, time, &stamp)?;
-    shown.put_counts(text, table, objects, store, time, &stamp)?;
+    shown.put_changes(text, table, objects, kernel.store(), time, &stamp)?;
     put_marks(text, time, &stamp, entry.notices)
+}
+
+/// Adds the ends of all slices.
+#[tactic(auto, using(std::proofs::Common::append_assoc))]
+fn add_foot(piece: &mut Piece, table: &Table, time: u64, stamp: &Stamp, last: &Tracks)
+    requires stamp { IsStamp stamp.now time }
+    requires room { array_vec_len piece.old
+        + TRACK * (MOST_CORES + MOST_PROCESSES + MOST_OBJECTS) ≤ PIECE_ROOM }
+    ensures { piece.new.items ≡ piece.old.items
+        ++ (trace.changes_text table.now time stamp.now.ticks last.now none_shown
+        ++ trace.mutexes_text table.now time stamp.now.ticks last.now.counts.owners []) }
+{
+    add_cores(piece, table, time, stamp, last.running(), &[]);
+    add_ends(piece, table, time, stamp, last.tracks());
+    add_mutex_ends(piece, table, time, stamp, last.counts().owners());
 }
 
 /// Puts what comes after the columns: the ends of all slices.
@@ -618,8 +620,8 @@ pub(crate) fn put_foot(
         ++ trace.foot_text table.now time now last.now) }
 {
     let stamp = Stamp::new(time, now);
-    put_cores(text, table, time, &stamp, last.running(), &[])?;
-    put_ends(text, table, time, &stamp, last.tracks())?;
-    put_mutex_ends(text, table, time, &stamp, last.counts().owners())?;
+    let mut piece = Piece::new();
+    add_foot(&mut piece, table, time, &stamp, last);
+    text.extend_from_slice(piece.as_slice())?;
     put(text, "\n]}\n")
 }

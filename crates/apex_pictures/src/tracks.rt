@@ -1,18 +1,22 @@
 //! The processes and the counts after an entry, as a trace shows them.
-ghost use Rattle.std.specs.Prelude.{◌≡◌, ◌<◌, ◌≤◌, ◌++◌, length, map, slice_index_or, OnOk};
+ghost use Rattle.std.specs.Prelude.{◌≡◌, ◌<◌, ◌≤◌, ◌++◌, IsTrue, length, map, slice_index_or, OnOk};
 ghost use Rattle.apex_types.specs.declared.limits.TheConstants.{MOST_CORES, MOST_PROCESSES};
+ghost use Rattle.apex_machine.specs.processes.Roster.{record_at};
 ghost use Rattle.apex_pictures.specs.Counts.{HasCounts, counts_of};
 ghost use Rattle.apex_pictures.specs.Moments.{moment_of, running_in};
 ghost use Rattle.apex_pictures.specs.Stamps.{IsStamp};
 ghost use Rattle.apex_pictures.specs.Trace.{changes_text, objects_text};
-ghost use Rattle.apex_pictures.specs.Tracks.{bare, cell_on, no_track, track_of};
+ghost use Rattle.apex_pictures.specs.Tracks.{bare, cell_on, track_of};
+ghost use Rattle.apex_pictures.specs.declared.beings.Being.TheVariants.{Dormant};
 
+use crate::beings::{Being, being_of, is_awaiting};
 use crate::counts::Counts;
-use crate::moments::{CORES, running_of, state_of};
+use crate::moments::{CORES, is_process, running_at, running_of, state_of};
+use crate::pieces::Piece;
 use crate::stamps::Stamp;
-use crate::trace::{put_processes, put_runs};
+use crate::trace::{add_processes, add_runs};
 use apex_dispatch::Objects;
-use apex_machine::Wait;
+use apex_machine::Record;
 use apex_store::Store;
 use apex_table::Table;
 use apex_types::{MOST_CORES, MOST_PROCESSES, ProcessId, State};
@@ -20,34 +24,17 @@ use arrayvec::ArrayVec;
 use std::alloc::AllocError;
 use std::marker::Model;
 
-/// What the track of a process shows after an entry.
-#[derive(Clone, Copy)]
-pub(crate) struct Track {
-    pub(crate) state: State,
-    /// Its wait, if it waits.
-    pub(crate) wait: Option<Wait>,
-}
-
-impl Default for Track {
-    fn default() -> Track
-        ensures { result ≡ no_track }
-    {
-        Track {
-            state: State::Dormant,
-            wait: None,
-        }
-    }
-}
-
-/// All processes after an entry, as a trace shows them: the state of each of them and what it waits
-/// for, and the process that each core runs. It has the counts of the objects too.
+/// All processes after an entry, as a trace shows them: what the slice of each of them shows, and the
+/// process that each core runs. It has the counts of the objects too.
 ///
-/// A contract sees a moment whose cells have no mutex.
+/// A contract sees a moment whose cells show no more than that.
 #[derive(Drop)]
 pub(crate) struct Tracks {
-    tracks: ArrayVec<Track, MOST_PROCESSES>,
+    tracks: ArrayVec<Being, MOST_PROCESSES>,
     running: ArrayVec<Option<ProcessId>, CORES>,
     counts: Counts,
+    /// The changes by an entry, before they are put.
+    piece: Piece,
 }
 
 impl Model for Tracks {
@@ -64,22 +51,48 @@ impl Model for Tracks {
     } };
 }
 
-/// The track of a process, given the process that each core runs.
+/// What the track of the process of this record shows, given the process that each core runs.
 #[inline(always)]
-pub(crate) fn track_of<S: Store>(
+pub(crate) fn track_by<S: Store>(
     store: &S,
     process: ProcessId,
+    fields: &Record,
     running: &[Option<ProcessId>],
-) -> Track
-    requires known { process < length (S.roster store.now).records }
+) -> Being
+    requires fields { fields.now ≡ record_at (S.roster store.now) process }
     requires running { running.now ≡ running_in (S.roster store.now) }
     ensures { result ≡ track_of (S.roster store.now) process }
 {
-    let fields = store.record(process);
     prove!(u32::from(fields.core.number()) < MOST_CORES);
-    Track {
-        state: state_of(process, fields, store.mode(), running),
-        wait: fields.wait,
+    being_of(
+        state_of(process, fields, store.mode(), running),
+        &fields.wait,
+    )
+}
+
+/// The track of the process of this record still shows this. It looks at no more of the record than
+/// that takes; if it answers no, the track may show it too.
+#[inline(always)]
+pub(crate) fn is_still<S: Store>(
+    store: &S,
+    process: ProcessId,
+    fields: &Record,
+    running: &[Option<ProcessId>],
+    being: &Being,
+) -> bool
+    requires fields { fields.now ≡ record_at (S.roster store.now) process }
+    requires running { running.now ≡ running_in (S.roster store.now) }
+    ensures { IsTrue result → track_of (S.roster store.now) process ≡ being.now }
+{
+    prove!(u32::from(fields.core.number()) < MOST_CORES);
+    match being {
+        Being::Dormant => !fields.started,
+        Being::Ready => matches!(
+            state_of(process, fields, store.mode(), running),
+            State::Ready
+        ),
+        Being::Running => is_process(process, running_at(running, fields.core)),
+        _ => is_awaiting(being, &fields.wait) && fields.started,
     }
 }
 
@@ -91,56 +104,34 @@ pub(crate) fn tracks_of<S: Store>(store: &S, counts: Counts) -> Tracks
     let running = running_of(store);
     let mut tracks = ArrayVec::new();
     for place in 0..store.process_count() {
-        tracks.push(track_of(store, ProcessId::at(place as u8), running.as_slice()));
+        let process = ProcessId::at(place as u8);
+        let fields = store.record(process);
+        tracks.push(track_by(store, process, fields, running.as_slice()));
     }
     Tracks {
         tracks,
         running,
         counts,
+        piece: Piece::new(),
     }
 }
 
-/// The track at a place; that of no process if there is no such track.
+/// What the track at a place shows; DORMANT if there is no such track.
 #[inline(always)]
-pub(crate) fn track_at(tracks: &[Track], place: usize) -> Track
-    ensures { result ≡ slice_index_or tracks.now place no_track }
+pub(crate) fn track_at(tracks: &[Being], place: usize) -> Being
+    ensures { result ≡ slice_index_or tracks.now place Dormant }
 {
     match tracks.get(place) {
         Some(track) => *track,
-        None => Track::default(),
+        None => Being::Dormant,
     }
 }
 
 impl Tracks {
-    /// Brings the tracks up to the processes of a store, and puts the changes on them.
+    /// Brings the tracks and the counts up to the processes of a store and these objects, and puts
+    /// the changes on the tracks and of the counters.
     #[tactic(auto, using(std::proofs::Common::append_assoc))]
     pub(crate) fn put_changes<S: Store>(
-        &mut self,
-        text: &mut Vec<u8>,
-        table: &Table,
-        store: &S,
-        time: u64,
-        stamp: &Stamp,
-    ) -> Result<(), AllocError>
-        requires stamp { IsStamp stamp.now time }
-        requires cores { length self.old.running ≡ MOST_CORES }
-        requires tracks { length self.old.cells ≡ length (S.roster store.now).records }
-        requires table { length table.now.processes ≡ length (S.roster store.now).records }
-        ensures text { OnOk result (text.new.items ≡ text.old.items
-            ++ changes_text table.now time stamp.now.ticks self.old
-            (bare (moment_of (S.roster store.now) self.old.counts))) }
-        ensures tracks { OnOk result (self.new
-            ≡ bare (moment_of (S.roster store.now) self.old.counts)) }
-    {
-        let running = self.running.as_mut_slice();
-        put_runs(text, table, store, time, stamp, running)?;
-        let (running, tracks) = (self.running.as_slice(), self.tracks.as_mut_slice());
-        put_processes(text, table, store, running, time, stamp, tracks)
-    }
-
-    /// Brings the counts up to these objects and the owners of the mutexes, and puts the counters
-    /// and the changes on the tracks of the mutexes.
-    pub(crate) fn put_counts<S: Store>(
         &mut self,
         text: &mut Vec<u8>,
         table: &Table,
@@ -151,19 +142,29 @@ impl Tracks {
     ) -> Result<(), AllocError>
         requires stamp { IsStamp stamp.now time }
         requires counts { HasCounts self.old.counts table.now }
+        requires cores { length self.old.running ≡ MOST_CORES }
+        requires tracks { length self.old.cells ≡ length (S.roster store.now).records }
+        requires table { length table.now.processes ≡ length (S.roster store.now).records }
         ensures text { OnOk result (text.new.items ≡ text.old.items
+            ++ (changes_text table.now time stamp.now.ticks self.old
+            (bare (moment_of (S.roster store.now) self.old.counts))
             ++ objects_text table.now time stamp.now.ticks self.old.counts
+            (counts_of table.now (S.roster store.now) objects.now))) }
+        ensures shown { self.new ≡ bare (moment_of (S.roster store.now)
             (counts_of table.now (S.roster store.now) objects.now)) }
-        ensures counts { OnOk result (self.new ≡ record self.old {
-          counts = counts_of table.now (S.roster store.now) objects.now;
-        }) }
     {
+        self.piece.clear();
+        let running = self.running.as_mut_slice();
+        add_runs(&mut self.piece, table, store, time, stamp, running);
+        let (running, tracks) = (self.running.as_slice(), self.tracks.as_mut_slice());
+        add_processes(&mut self.piece, table, store, running, time, stamp, tracks);
         self.counts
-            .put_changes(text, table, objects, store, time, stamp)
+            .add_changes(&mut self.piece, table, objects, store, time, stamp);
+        text.extend_from_slice(self.piece.as_slice())
     }
 
     /// The tracks of the processes.
-    pub(crate) fn tracks(&self) -> &[Track]
+    pub(crate) fn tracks(&self) -> &[Being]
         ensures { map cell_on result.now ≡ self.now.cells }
     {
         self.tracks.as_slice()

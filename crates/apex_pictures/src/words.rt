@@ -25,7 +25,8 @@ pub(crate) fn state_word(state: State) -> &'static str
 }
 
 pub(crate) fn deadline_word(deadline: DeadlineType) -> &'static str
-    ensures { result.now ≡ deadline_text deadline }
+    ensures value { result.now ≡ deadline_text deadline }
+    ensures short { length result.now ≤ 14 }
 {
     match deadline {
         DeadlineType::Soft => "soft",
@@ -34,7 +35,8 @@ pub(crate) fn deadline_word(deadline: DeadlineType) -> &'static str
 }
 
 pub(crate) fn code_word(code: ReturnCode) -> &'static str
-    ensures { result.now ≡ code_text code }
+    ensures value { result.now ≡ code_text code }
+    ensures short { length result.now ≤ 14 }
 {
     match code {
         ReturnCode::NoError => "NO_ERROR",

@@ -1,5 +1,5 @@
 -- The responses to which schedules lead, and those that a search finds.
-use Rattle.std.proofs.Common.{◌≡◌, ℕ, suc, ◌+◌, ◌-◌, ◌*◌, ◌<◌, ◌≤◌, ◌^◌, ◌⊎◌, Bool, true, false, not, List, [], ◌∷◌, ◌++◌, length, length-append, min, Option, None, Some, option_map, inl, inr, refl, sym, ◌∙◌, ap, subst, arith, le_trans, leb-true, le-leb}
+use Rattle.std.proofs.Common.{◌≡◌, ℕ, suc, ◌+◌, ◌-◌, ◌*◌, ◌<◌, ◌≤◌, ◌^◌, ◌⊎◌, Bool, true, false, not, List, [], ◌∷◌, ◌++◌, length, length-append, min, Option, None, Some, option_map, inl, inr, refl, sym, ◌∙◌, ap, subst, arith, leb-true, le-leb}
 use Rattle.std.specs.Prelude.{◌||◌, nat_le}
 use Rattle.std.proofs.lemmas.Bool.{and_parts, cases_lt}
 use Rattle.std.proofs.lemmas.Bool.Decides.{Decides-eqb}
@@ -8,7 +8,6 @@ use Rattle.std.specs.List.{All}
 use Rattle.std.specs.Option.{ForSome}
 use Rattle.apex_alike.proofs.Chains.{unmoved}
 use Rattle.apex_alike.specs.Alike.{AreAlike, IsLater, ServesAs, ServesFor}
-use Rattle.apex_explore.specs.declared.answers.Answer.TheVariants as answers
 use Rattle.apex_explore.specs.declared.searches.Search.{Search}
 use Rattle.apex_machine.specs.Deeds.{Deed}
 use Rattle.apex_machine.specs.Events.{IsWithin}

@@ -53,33 +53,33 @@ pub(crate) fn make(
 }
 
 /// Makes the event in this situation, which is in canonical form, and puts the words of the
-/// form that it goes on to into `next`. Answers what came of it, and the situation then.
+/// form that it goes on to into `next`. Answers what came of it.
 pub(crate) fn step(
-    mut paced: PacedSituation,
+    paced: &mut PacedSituation,
     pace: Pace,
     table: &Table,
     question: &Question,
     event: Event,
     notices: &mut Notices,
     next: &mut [u64],
-) -> (Taken, PacedSituation)
+) -> Taken
     requires pace { IsPace pace }
     requires reach { FormsReach table.now }
-    requires form { IsFormed pace table.now (paced_in paced) }
+    requires form { IsFormed pace table.now (paced_in paced.old) }
     requires room { length next.old ≡ word_count table.now }
-    requires event { IsChosen pace table.now (paced_in paced) event }
-    ensures step { step_of result.0 next.new ≡ step_by (searched table.now pace question.now)
-        (paced_in paced) (Some event) }
-    ensures state { GoesTo (IsForm pace table.now) (step_of result.0 next.new) }
-    ensures parts { IsOfTable table.now (paced_in result.1).situation }
+    requires event { IsChosen pace table.now (paced_in paced.old) event }
+    ensures step { step_of result next.new ≡ step_by (searched table.now pace question.now)
+        (paced_in paced.old) (Some event) }
+    ensures state { GoesTo (IsForm pace table.now) (step_of result next.new) }
+    ensures parts { IsOfTable table.now (paced_in paced.new).situation }
 {
     table.lawful();
     turns_are_few(pace);
     forms_are_ready();
     parts_are_kept();
-    if make(&mut paced, table, question, &event, notices) {
-        return (Taken::Hit, paced);
+    if make(paced, table, question, &event, notices) {
+        return Taken::Hit;
     }
-    put_words(&paced, pace, table, next);
-    (Taken::Next, paced)
+    put_words(paced, pace, table, next);
+    Taken::Next
 }

@@ -134,7 +134,7 @@ impl Workplace {
             unreachable!()
         };
         match &self.here {
-            Some(here) => restore_known(made, table, here, self.blank, words),
+            Some(here) => restore_known(made, table, here, words),
             None => unreachable!(),
         }
     }
@@ -363,10 +363,10 @@ impl System for TableSystem {
         let Some(event) = workplace.event(self.pace, &self.table, choice) else {
             return Taken::Refused;
         };
-        let paced = workplace.copied(&self.table, state);
+        let mut paced = workplace.copied(&self.table, state);
         let notices = &mut workplace.notices;
-        let (taken, made) = step(
-            paced,
+        let taken = step(
+            &mut paced,
             self.pace,
             &self.table,
             &self.question,
@@ -374,7 +374,7 @@ impl System for TableSystem {
             notices,
             next,
         );
-        workplace.made = Some(made);
+        workplace.made = Some(paced);
         taken
     }
 }

@@ -1,3 +1,4 @@
+pub mod Comparing
 pub mod Fronts
 pub mod Gathering
 pub mod Packing

@@ -174,7 +174,7 @@ IsFound-new cells cells' k place steps e short way here = record {
 }
 
 -- a state behind others is one of these or the last
-pub last_or_before : (states : List (List ℕ)) (k : List ℕ) (place : ℕ) (other : List ℕ) → slice_get (states ++ k ∷ []) place ≡ Some other → (slice_get states place ≡ Some other) ⊎ ((place ≡ length states) × (k ≡ other))
+pub last_or_before : {X : Type 0} (states : List X) (k : X) (place : ℕ) (other : X) → slice_get (states ++ k ∷ []) place ≡ Some other → (slice_get states place ≡ Some other) ⊎ ((place ≡ length states) × (k ≡ other))
 last_or_before [] k zero other is = inr (refl, same_Some k other is)
 last_or_before [] k (suc place) other is = cc
 last_or_before (s ∷ states) k zero other is = inl is

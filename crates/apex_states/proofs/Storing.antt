@@ -1,26 +1,23 @@
 -- The states that are stored.
-use Rattle.std.proofs.Common.{◌≡◌, ℕ, zero, suc, ◌*◌, ◌≤◌, true, false, List, [], ◌∷◌, ◌++◌, length, length-append, map, replicate, take, drop, Some, refl, sym, ap, ◌∙◌, subst, arith, inl, inr}
-use Rattle.std.proofs.lemmas.List.{length-drop, length-map, length-replicate, map-append, take-append-drop}
-use Rattle.std.proofs.lemmas.Option.{same_Some, slice_get-map, slice_get_within}
+use Rattle.std.proofs.Common.{◌≡◌, ℕ, zero, suc, ◌*◌, ◌≤◌, true, false, List, [], ◌∷◌, ◌++◌, length, length-append, map, take, drop, Some, refl, sym, ap, ◌∙◌, subst, arith, inl, inr}
+use Rattle.std.proofs.lemmas.List.{length-drop, length-map, map-append}
+use Rattle.std.proofs.lemmas.Option.{same_Some, slice_get-map}
 use Rattle.std.specs.List.{slice_get}
 use Rattle.std.specs.Prelude.{slice_index_or}
 use Rattle.std.specs.Option.{option_map}
 use Rattle.apex_states.specs.declared.nodes.Nodes.{Nodes}
 use Rattle.apex_states.specs.declared.registers.Entered.TheVariants.{Known, New, Full}
 use Rattle.apex_states.specs.declared.states.Origin.{Origin}
-use Rattle.apex_states.specs.declared.states.Reader.{Reader}
 use Rattle.apex_states.specs.declared.states.TheConstants.{DEPTH}
 use Rattle.apex_states.specs.Index.{IsKnown}
 use Rattle.apex_states.specs.Lists.{AllAre}
 use Rattle.apex_states.specs.Nodes.{IsExact, IsHeld, IsTree, Joins, no_nodes}
 use Rattle.apex_states.specs.Registers.{AreApart, IsEntered}
 use Rattle.apex_states.specs.Rows.{Packed, no_rows}
-use Rattle.apex_states.specs.States.{IsHere, IsKept, IsReader, IsReaderAt, IsRoot, IsStored, Reached, padded, rest_of, state_of, states_in, with_state}
+use Rattle.apex_states.specs.States.{IsHere, IsKept, IsRoot, IsStored, Reached, state_of, states_in, with_state}
 use Rattle.apex_states.proofs.Probing.{last_or_before}
 use Rattle.apex_states.proofs.Registering.{AreApart-push}
 use Rattle.apex_states.proofs.Trees.{joined-root, same_root, single, Joins-held, Joins-single}
-
--- The states of the rows.
 
 take_front : (xs ys : List ℕ) → take (length xs) (xs ++ ys) ≡ xs
 take_front [] ys = refl
@@ -91,10 +88,8 @@ pub IsStored-start : (width part room size : ℕ) (roots : Packed) (nodes : Node
     → room ≤ capacity
     → length words ≡ 16 * part
     → width ≤ 16 * part
-    → length words ≡ padded width
-    → drop width words ≡ rest_of width
     → IsStored width roots nodes origins capacity words
-IsStored-start width part room size roots nodes origins capacity words roots_is nodes_is origins_is reserved long wide size_is rest = rw (roots_is, nodes_is, origins_is) (record {
+IsStored-start width part room size roots nodes origins capacity words roots_is nodes_is origins_is reserved long wide = rw (roots_is, nodes_is, origins_is) (record {
   one = refl;
   apart = λ i j k one other. cc;
   exact = record { parts = λ i j k one other. cc; pairs = λ i j k one other. cc; one = refl };
@@ -103,8 +98,6 @@ IsStored-start width part room size roots nodes origins capacity words roots_is 
   valid = λ place row is. cc;
   paired = refl;
   reserved = reserved;
-  size = size_is;
-  rest = rest;
 })
 
 -- the states are apart
@@ -128,8 +121,6 @@ IsStored-held width roots nodes nodes' origins capacity words words' old held ex
       valid = subst Valid (sym rest) (AllAre-held nodes nodes' width (drop width words) roots.rows held old.valid);
       paired = old.paired;
       reserved = old.reserved;
-      size = long ∙ old.size;
-      rest = rest ∙ old.rest;
     }
 
 -- the words of a state, put before the rest
@@ -166,8 +157,6 @@ IsStored-enter width roots roots' nodes origins origins' origin capacity capacit
   ];
   paired = omega (arith, length-append origins (origin ∷ []), length-append roots.rows (row ∷ []), old.paired);
   reserved = old.reserved;
-  size = old.size;
-  rest = old.rest;
 })
 
 -- words that were lent and given back
@@ -271,66 +260,3 @@ module _ (width : ℕ) (roots : Packed) (nodes nodes' : Nodes) (origins : List O
   keep_full roots' origin entered =
       let Seen : Packed → Type 0 = λ rs. seen nodes' rs origins ≡ seen nodes roots origins in
       (unknown entered.0, length-map roots.rows (state_of nodes width) ∙ entered.1, subst Seen (sym entered.2) (ap (λ ks. record { width = width; room = roots.room; states = ks; origins = origins }) same))
-
--- What a reader of the states has.
-
--- words that are all zeros
-pub zeros_length : (width : ℕ) (words : List ℕ) → words ≡ replicate (padded width) 0 → length words ≡ padded width
-zeros_length width words zeros = ap length zeros ∙ length-replicate {A = ℕ} (padded width) 0
-
-pub IsReader-start : (width : ℕ) (reader : Reader) → reader.here.items ≡ replicate (padded width) 0 → reader.words.items ≡ replicate (padded width) 0 → IsReader width reader
-IsReader-start width reader here words = record {
-  here = zeros_length width reader.here.items here;
-  words = zeros_length width reader.words.items words;
-  rest = ap (drop width) words;
-}
-
-module _ (width : ℕ) (roots : Packed) (nodes : Nodes) (origins : List Origin) (capacity : ℕ) (words : List ℕ) (stored : IsStored width roots nodes origins capacity words) where
-  -- words with the rest behind them are as long as all
-  rested : (here : List ℕ) → drop width here ≡ rest_of width → here ≡ take width here ++ drop width words
-  rested here rest = sym (take-append-drop width here) ∙ ap (λ r. take width here ++ r) (rest ∙ sym stored.rest)
-
-  -- what a reader has read is the tree of the row at its place
-  pub read_tree : (place : ℕ) (here row : List ℕ)
-      → drop width here ≡ rest_of width
-      → slice_get (states_in nodes width roots.rows) place ≡ Some (take width here)
-      → slice_get roots.rows place ≡ Some row
-      → length row ≡ 1
-      → Joins (IsTree nodes DEPTH) (slice_index_or row 0 0 ∷ []) here
-  read_tree place here row rest here_is there one =
-      let (row', there', long, joins) = root_at nodes width (drop width words) roots.rows place (take width here) stored.valid here_is in
-      let same : row' ≡ row = same_Some row' row (sym there' ∙ there) in
-      let Is : List ℕ → Type 0 = λ r. Joins (IsTree nodes DEPTH) r here in
-      let Whole : List ℕ → Type 0 = λ ws. Joins (IsTree nodes DEPTH) row' ws in
-      let whole : Joins (IsTree nodes DEPTH) row' here = subst Whole (sym (rested here rest)) joins in
-      Joins-single (IsTree nodes DEPTH) row here one (subst Is same whole)
-
-  -- a state whose row is one of the rows is one of the states
-  pub known_state : (number word : ℕ) (k all : List ℕ)
-      → slice_get roots.rows number ≡ Some (word ∷ [])
-      → length k ≡ width
-      → all ≡ k ++ rest_of width
-      → Joins (IsTree nodes DEPTH) (word ∷ []) all
-      → IsKnown (states_in nodes width roots.rows) k
-  known_state number word k all there long all_are joins =
-      let Whole : List ℕ → Type 0 = λ ws. Joins (IsTree nodes DEPTH) (word ∷ []) ws in
-      let e : all ≡ k ++ drop width words = all_are ∙ ap (λ r. k ++ r) (sym stored.rest) in
-      (number, state_at nodes width (drop width words) roots.rows number (word ∷ []) k there long (subst Whole e joins))
-
--- the words that a reader has read, lent and given back
-pub read_back : (width : ℕ) (roots : Packed) (nodes : Nodes) (origins : List Origin) (capacity place len : ℕ) (words here lent row here' : List ℕ)
-    → IsStored width roots nodes origins capacity words
-    → length here ≡ padded width
-    → slice_get roots.rows place ≡ Some row
-    → length row ≡ 1
-    → length lent ≡ len → lent ≡ here
-    → Joins (IsTree nodes DEPTH) (slice_index_or row 0 0 ∷ []) here'
-    → (length (take len (here' ++ drop (length here') here)) ≡ padded width)
-    × (drop width (take len (here' ++ drop (length here') here)) ≡ rest_of width)
-    × (slice_get (states_in nodes width roots.rows) place ≡ Some (take width (take len (here' ++ drop (length here') here))))
-read_back width roots nodes origins capacity place len words here lent row here' stored as_long there one len_is lent_is joins =
-    let Is : List ℕ → Type 0 = λ r. Joins (IsTree nodes DEPTH) r here' in
-    let done = restored width roots nodes origins capacity place words row here' stored there (subst Is (sym (single row one)) joins) in
-    let back : take len (here' ++ drop (length here') here) ≡ here' = given_back len here' here (sym len_is ∙ ap length lent_is) (done.0 ∙ (stored.size ∙ sym as_long)) in
-    let Read : List ℕ → Type 0 = λ ws. (length ws ≡ padded width) × (drop width ws ≡ rest_of width) × (slice_get (states_in nodes width roots.rows) place ≡ Some (take width ws)) in
-    subst Read (sym back) (done.0 ∙ stored.size, done.1 ∙ stored.rest, done.2)

@@ -1,3 +1,4 @@
+pub mod Batches
 pub mod Finds
 pub mod Index
 pub mod Lists

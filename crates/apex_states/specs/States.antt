@@ -1,8 +1,7 @@
 -- The states that a search has reached, as contracts see them, and what is kept of them in memory.
-use Rattle.std.specs.Prelude.{◌≡◌, ℕ, ◌+◌, ◌*◌, ◌/◌, ◌≤◌, ◌⊎◌, Bool, true, false, List, [], ◌∷◌, ◌++◌, length, map, replicate, slice_get, Some, take, drop}
+use Rattle.std.specs.Prelude.{◌≡◌, ℕ, ◌+◌, ◌≤◌, ◌⊎◌, Bool, true, false, List, [], ◌∷◌, ◌++◌, length, map, take, drop}
 use Rattle.apex_states.specs.declared.nodes.Nodes.{Nodes}
 use Rattle.apex_states.specs.declared.states.Origin.{Origin}
-use Rattle.apex_states.specs.declared.states.Reader.{Reader}
 use Rattle.apex_states.specs.declared.states.TheConstants.{DEPTH}
 use Rattle.apex_states.specs.Index.{IsKnown}
 use Rattle.apex_states.specs.Nodes.{IsExact, IsTree, Joins, joined, spread, words_of}
@@ -35,14 +34,6 @@ pub record IsRoot (nodes : Nodes) (width : ℕ) (rest row : List ℕ) : Type 0 w
   pub long : length state ≡ width
   pub joins : Joins (IsTree nodes DEPTH) row (state ++ rest)
 
--- the words of a state of this width, and zeros, are cut into equal parts
-abbrev pub padded : ℕ → ℕ
-padded width = 16 * (width / 16 + 1)
-
--- the zeros behind the words of a state of this width
-abbrev pub rest_of : ℕ → List ℕ
-rest_of width = drop width (replicate (padded width) 0)
-
 -- the rows are apart, each is that of a state and has its origin, and room is taken for the rest
 pub record IsStored (width : ℕ) (roots : Packed) (nodes : Nodes) (origins : List Origin)
     (capacity : ℕ) (words : List ℕ) : Type 0 where
@@ -54,20 +45,6 @@ pub record IsStored (width : ℕ) (roots : Packed) (nodes : Nodes) (origins : Li
   pub valid : AllAre (IsRoot nodes width (drop width words)) roots.rows
   pub paired : length origins ≡ length roots.rows
   pub reserved : roots.room ≤ capacity
-  pub size : length words ≡ padded width
-  pub rest : drop width words ≡ rest_of width
-
--- the reader is for states of this width
-pub record IsReader (width : ℕ) (reader : Reader) : Type 0 where
-  pub here : length reader.here.items ≡ padded width
-  pub words : length reader.words.items ≡ padded width
-  pub rest : drop width reader.words.items ≡ rest_of width
-
--- the reader has read one of the states
-pub record IsReaderAt (reached : Reached) (reader : Reader) : Type 0 where
-  pub reads : IsReader reached.width reader
-  pub here : slice_get reached.states reader.place ≡ Some (take reached.width reader.here.items)
-  pub rest : drop reached.width reader.here.items ≡ rest_of reached.width
 
 -- the pair is that of the words that were restored last
 pub record IsHere (nodes : Nodes) (words here : List ℕ) (pair : ℕ) : Type 0 where

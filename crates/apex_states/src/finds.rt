@@ -1,18 +1,25 @@
 //! States that are to be kept.
-ghost use Rattle.std.specs.Prelude.{◌≡◌, ◌<◌, length, slice_get, Some, IfOk};
+ghost use Rattle.std.specs.Prelude.{◌≡◌, ◌<◌, true, length, slice_get, Some, IfOk};
 ghost use Rattle.apex_states.specs.Finds.{no_finds, IsPut};
+ghost use Rattle.apex_states.specs.Index.{IsKnown};
 
+use crate::index::home;
 use crate::rows::Rows;
 use crate::states::Origin;
 use std::alloc::{AllocError, Global};
 use std::marker::Model;
 
+/// The number of slots for states that were found a short time before.
+const SLOTS: usize = 4096;
+
 /// States in the order in which they were found, and the origin of each. One can be there more than
-/// once.
+/// once, but seldom is if it was found a short time before.
 #[derive(Drop)]
 pub struct Finds {
     states: Rows,
     origins: Vec<Origin>,
+    /// The place of the last state for which there was this slot, by a hash of its words.
+    recent: Vec<usize>,
 }
 
 impl Model for Finds {
@@ -31,14 +38,15 @@ impl Model for Finds {
 }
 
 impl Finds {
-    /// No states, of `width` words each. Takes no memory.
-    pub fn new(alloc: Global, width: usize) -> Finds
-        ensures { result ≡ no_finds width }
+    /// No states, of `width` words each. Fails only for want of memory.
+    pub fn new(alloc: Global, width: usize) -> Result<Finds, AllocError>
+        ensures { IfOk result (λ finds. finds ≡ no_finds width) }
     {
-        Finds {
+        Ok(Finds {
             states: Rows::empty(alloc, width),
             origins: Vec::new(alloc),
-        }
+            recent: vec![in alloc; 0; SLOTS]?,
+        })
     }
 
     /// The number of states.
@@ -66,14 +74,33 @@ impl Finds {
         self.origins[place]
     }
 
-    /// Puts the state behind the others, unless it is there already. Fails only for want of memory.
+    /// The state is the last one for which there was this slot.
+    fn is_recent(&self, slot: usize, state: &[u64]) -> bool
+        ensures { result ≡ true → IsKnown self.now.states state.now }
+    {
+        match self.recent.get(slot) {
+            Some(place) if *place < self.origins.len() => self.states.row(*place) == state,
+            _ => false,
+        }
+    }
+
+    /// Puts the state behind the others, unless it is there and was found a short time before. Fails only
+    /// for want of memory.
     pub fn put(&mut self, state: &[u64], origin: Origin) -> Result<(), AllocError>
         requires { length state.now ≡ self.old.width }
         ensures { IfOk result (λ _. IsPut self.old state.now origin self.new) }
     {
+        let slot = home(state, SLOTS);
+        if self.is_recent(slot, state) {
+            return Ok(());
+        }
+        let place = self.origins.len();
         self.origins.reserve(1)?;
         self.states.push_more(state)?;
         self.origins.push_reserved(origin);
+        if slot < self.recent.len() {
+            self.recent[slot] = place;
+        }
         Ok(())
     }
 }

@@ -56,7 +56,7 @@ fn mix(hash: u64, word: u64) -> u64
 /// The slot at which the search for a row begins. It is as far among the slots as the hash is among
 /// the words, so that the highest bits decide, on which all others have an effect.
 #[tactic(auto, unfolding(crate::specs::Index::home_of))]
-fn home(row: &[u64], size: usize) -> usize
+pub(crate) fn home(row: &[u64], size: usize) -> usize
     requires { 0 < size }
     ensures { result ≡ home_of size row.now }
 {

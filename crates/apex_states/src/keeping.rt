@@ -6,6 +6,21 @@ use crate::finds::Finds;
 use crate::states::{Origin, States};
 use std::alloc::{AllocError, Global};
 
+/// Restores the parent of the state that was found at the place, unless it is that of the one before: a
+/// state is nearly its parent, and what they have in common is not looked up.
+fn restore_parent(states: &mut States, state: &mut [u64], finds: &Finds, place: usize)
+    requires place { place < length finds.now.states }
+    requires state { length state.old ≡ states.old.width }
+    requires parent { (origin : Origin) → slice_get finds.now.origins place ≡ Some origin
+        → origin.parent < length states.old.states }
+    ensures { states.new ≡ states.old }
+{
+    let parent = finds.origin(place).parent;
+    if place == 0 || finds.origin(place - 1).parent != parent {
+        states.restore(parent as usize, state);
+    }
+}
+
 /// Keeps the states that were found, in order, until there is no room for one: false then. `state` has
 /// room for the words of one. Fails only for want of memory.
 pub fn keep_all(
@@ -22,8 +37,8 @@ pub fn keep_all(
     ensures { IfOk result (AreKept finds.now states.old states.new) }
 {
     for place in 0..finds.len() {
+        restore_parent(states, state, finds, place);
         let origin = finds.origin(place);
-        states.restore(origin.parent as usize, state);
         if !states.keep(alloc, finds.state(place), origin)? {
             return Ok(false);
         }

@@ -2,6 +2,7 @@
 //! have in common is kept once.
 #![tactic(auto)]
 
+mod batches;
 mod finds;
 mod index;
 mod keeping;
@@ -9,7 +10,9 @@ mod nodes;
 mod registers;
 mod rows;
 mod states;
+mod words;
 
+pub use batches::Batch;
 pub use finds::Finds;
 pub use keeping::keep_all;
-pub use states::{Origin, Reader, States};
+pub use states::{Origin, States};

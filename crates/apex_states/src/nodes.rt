@@ -1,10 +1,11 @@
 //! Words as trees. A row of words is cut in halves, each half again, and so on down to parts of a
 //! few words. Each part and each pair of halves is kept once, so rows that share halves share their
 //! memory.
-ghost use Rattle.std.specs.Prelude.{◌≡◌, ℕ, ◌+◌, ◌^◌, ◌/◌, ◌%◌, List, [], ◌∷◌, length, IfOk, IfSome};
+ghost use Rattle.std.specs.Prelude.{◌≡◌, ℕ, ◌+◌, ◌^◌, ◌/◌, ◌%◌, List, [], ◌∷◌, length, IfOk};
 ghost use Rattle.apex_states.specs.Nodes.{IsExact, IsHeld, IsTree, Joins, no_nodes, spread};
 
 use crate::registers::Register;
+use crate::words::are_same;
 use std::alloc::{AllocError, Global};
 
 /// The room for parts and for pairs at first.
@@ -115,17 +116,14 @@ impl Nodes {
         ensures held { IsHeld self.old self.new }
         ensures exact { IsExact self.new }
     {
+        if are_same(words, known) {
+            return Ok(number);
+        }
         if depth == 0 {
-            if words == known {
-                return Ok(number);
-            }
             return self.parts.number(alloc, words);
         }
         let pair = self.pairs.row(number as usize)[0];
         let word = self.number_halves_like(alloc, depth - 1, words, known, pair)?;
-        if word == pair {
-            return Ok(number);
-        }
         self.pairs.number(alloc, &[word])
     }
 
@@ -157,56 +155,6 @@ impl Nodes {
         let left = self.number_like(alloc, depth, front, known_front, pair.left)?;
         let right = self.number_like(alloc, depth, back, known_back, pair.right)?;
         Ok(Pair { left, right }.word())
-    }
-
-    /// The number of the tree of these words, if it is there. They are nearly these known ones: what
-    /// they have in common is not looked up.
-    #[cycle(finds)]
-    fn find_like(&self, depth: u32, words: &[u64], known: &[u64], number: u32) -> Option<u32>
-        requires exact { IsExact self.now }
-        requires words { length words.now ≡ spread self.now.parts.width depth }
-        requires long { length known.now ≡ length words.now }
-        requires known { IsTree self.now depth number known.now }
-        ensures { IfSome result (λ number. IsTree self.now depth number words.now) }
-    {
-        if depth == 0 {
-            if words == known {
-                return Some(number);
-            }
-            return self.parts.find(words);
-        }
-        let pair = self.pairs.row(number as usize)[0];
-        let word = self.find_halves_like(depth - 1, words, known, pair)?;
-        if word == pair {
-            return Some(number);
-        }
-        self.pairs.find(&[word])
-    }
-
-    /// The numbers of the trees of both halves of these words, in one word, if they are there. The
-    /// words are nearly these known ones, whose numbers are in `pair`; `depth` is that of a half.
-    #[cycle(finds)]
-    pub(crate) fn find_halves_like(
-        &self,
-        depth: u32,
-        words: &[u64],
-        known: &[u64],
-        pair: u64,
-    ) -> Option<u64>
-        requires exact { IsExact self.now }
-        requires words { length words.now
-            ≡ spread self.now.parts.width depth + spread self.now.parts.width depth }
-        requires long { length known.now ≡ length words.now }
-        requires known { Joins (IsTree self.now depth) (pair ∷ []) known.now }
-        ensures { IfSome result (λ word.
-            Joins (IsTree self.now depth) (word ∷ []) words.now) }
-    {
-        let pair = Pair::of(pair);
-        let (front, back) = words.split_at(words.len() / 2);
-        let (known_front, known_back) = known.split_at(known.len() / 2);
-        let left = self.find_like(depth, front, known_front, pair.left)?;
-        let right = self.find_like(depth, back, known_back, pair.right)?;
-        Some(Pair { left, right }.word())
     }
 
     /// Puts the words of the tree with this number into these.

@@ -98,6 +98,14 @@ impl Rows {
         }
     }
 
+    /// No rows from now on. The room stays.
+    pub(crate) fn clear(&mut self)
+        ensures { self.new ≡ record self.old { rows = [] } }
+    {
+        self.words.clear();
+        self.count = 0;
+    }
+
     /// Puts a row after the others, with room for it if there is none. Fails only for want of memory.
     pub(crate) fn push_more(&mut self, row: &[u64]) -> Result<(), AllocError>
         requires { length row.now ≡ self.old.width }

@@ -2,7 +2,7 @@
 ghost use Rattle.std.specs.Prelude.{◌≡◌, ◌^◌, ◌<◌, ◌≤◌, ◌++◌, true, drop, length, slice_get, Some, IfOk};
 ghost use Rattle.apex_states.specs.Registers.{AreApart};
 ghost use Rattle.apex_states.specs.Index.{IsKnown};
-ghost use Rattle.apex_states.specs.States.{no_states, IsKept, IsReader, IsReaderAt};
+ghost use Rattle.apex_states.specs.States.{no_states, IsKept};
 
 use crate::nodes::Nodes;
 use crate::registers::{Entered, Register};
@@ -28,17 +28,6 @@ fn put_front(words: &mut [u64], front: &[u64])
 pub struct Origin {
     pub parent: u32,
     pub choice: u32,
-}
-
-/// What a thread needs that reads states, of which other threads may read others at once.
-#[derive(Drop)]
-pub struct Reader {
-    /// The place of the state that was read last.
-    place: usize,
-    /// Its words, and zeros, so that all are cut into equal parts.
-    here: Vec<u64>,
-    /// Room for the words of another one, and zeros.
-    words: Vec<u64>,
 }
 
 /// States in the order in which they were found, each once, and the origin of each.
@@ -133,53 +122,6 @@ impl States {
         ensures { result.now ≡ self.now.origins }
     {
         self.origins.as_slice()
-    }
-
-    /// What a thread needs that reads the states. Fails only for want of memory.
-    pub fn reader(&self, alloc: Global) -> Result<Reader, AllocError>
-        ensures { IfOk result (IsReader self.now.width) }
-    {
-        let size = self.words.len();
-        Ok(Reader {
-            place: 0,
-            here: vec![in alloc; 0; size]?,
-            words: vec![in alloc; 0; size]?,
-        })
-    }
-
-    /// Puts the words of the state at the place into these.
-    pub fn read(&self, reader: &mut Reader, place: usize, state: &mut [u64])
-        requires place { place < length self.now.states }
-        requires reader { IsReader self.now.width reader.old }
-        requires width { length state.old ≡ self.now.width }
-        ensures state { slice_get self.now.states place ≡ Some state.new }
-        ensures reader { IsReaderAt self.now reader.new }
-    {
-        let word = self.roots.row(place)[0];
-        self.nodes
-            .restore_halves(DEPTH, word, reader.here.as_mut_slice());
-        reader.place = place;
-        state.copy_from_slice(&reader.here.as_slice()[..self.width]);
-    }
-
-    /// The state is one of these. It is nearly the one that was read last: what they have in common
-    /// is not looked up.
-    pub fn knows(&self, reader: &mut Reader, state: &[u64]) -> bool
-        requires reader { IsReaderAt self.now reader.old }
-        requires width { length state.now ≡ self.now.width }
-        ensures known { result ≡ true → IsKnown self.now.states state.now }
-        ensures reader { IsReaderAt self.now reader.new }
-    {
-        put_front(reader.words.as_mut_slice(), state);
-        let (words, here) = (reader.words.as_slice(), reader.here.as_slice());
-        let pair = self.roots.row(reader.place)[0];
-        let Some(word) = self.nodes.find_halves_like(DEPTH, words, here, pair) else {
-            return false;
-        };
-        match self.roots.find(&[word]) {
-            Some(_) => true,
-            None => false,
-        }
     }
 
     /// Keeps the state as the last one if it is not there yet: false if there is no room for it.

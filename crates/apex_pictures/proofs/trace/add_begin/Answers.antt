@@ -6,5 +6,5 @@ use Rattle.apex_pictures.proofs.trace.add_begin.Goals as goal
 pub returns-clause-text : goal.returns-clause-text
 returns-clause-text c =
     let back = c.begin.ensures.value ∙ c.requires.stamps.1.1 in
-    begin_whole c.args.spot c.args.stamp.now.ticks c.args.piece.now.items c.add.new.piece.items c.add_number.new.piece.items c.add-2.new.piece.items
-    (rw c.begin_front.ensures.value at c.add.ensures.text) c.add_number.ensures.text (rw back at c.add-2.ensures.text)
+    begin_whole c.args.spot c.args.stamp.now.ticks c.args.piece.now.items c.add_begin_front.new.piece.items c.add_number.new.piece.items c.add_bytes.new.piece.items
+    c.add_begin_front.ensures.text (rw c.from.ensures at c.add_number.ensures.text) (rw back at c.add_bytes.ensures.text)

@@ -5,6 +5,6 @@ use Rattle.apex_pictures.proofs.trace.add_end.Goals as goal
 
 pub returns-clause-text : goal.returns-clause-text
 returns-clause-text c =
-    let back = c.end.ensures.value ∙ c.requires.stamps.1.0 in
-    end_whole c.args.spot c.args.piece.now.items c.add.new.piece.items c.add_number.new.piece.items c.add-2.new.piece.items
-    (rw c.end_front.ensures.value at c.add.ensures.text) c.add_number.ensures.text (rw back at c.add-2.ensures.text)
+    let back = c.time.ensures.value ∙ c.requires.stamps.1.0 in
+    end_whole c.args.spot c.args.piece.now.items c.add_end_front.new.piece.items c.add_number.new.piece.items c.add_bytes.new.piece.items c.add_text.new.piece.items
+    c.add_end_front.ensures.text (rw c.from.ensures at c.add_number.ensures.text) (rw back at c.add_bytes.ensures.text) c.add_text.ensures.text

@@ -1,5 +1,5 @@
 -- What a search that stops says.
-use Rattle.std.proofs.Common.{◌≡◌, ℕ, ◌+◌, length, ap, ◌∙◌, subst}
+use Rattle.std.proofs.Common.{◌≡◌, ℕ, ◌+◌, length, ap, subst}
 use Rattle.apex_states.proofs.Registering.{AllPairs-from_apart, AreApart-push}
 use Rattle.apex_explore.specs.Paths.{ReachesWithin}
 use Rattle.apex_explore.specs.Systems.{step_within}

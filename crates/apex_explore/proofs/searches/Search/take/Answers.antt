@@ -1,5 +1,4 @@
 -- A search that goes on by expansions.
-use Rattle.std.proofs.Common.{◌∙◌}
 use Rattle.apex_explore.proofs.searches.Search.take.Goals as goal
 
 pub take_all-requires-clause-stands : goal.take_all-requires-clause-stands

@@ -1,31 +1,37 @@
--- A part of a level, by one thread or by several.
-use Rattle.std.proofs.Common.{◌≡◌, ◌+◌, ◌≤◌, refl, sym, ap, ◌∙◌, subst, arith}
-use Rattle.apex_explore.specs.Parts.{AreExpansions, IsPart}
-use Rattle.apex_explore.specs.Searches.{IsOver}
+-- A round of a level.
+use Rattle.std.proofs.Common.{◌≡◌, ℕ, ◌+◌, sym, ap, ◌∙◌, subst, arith}
 use Rattle.apex_explore.specs.Systems.{step_within}
-use Rattle.apex_jobs.proofs.Splitting.{over_turned, ready_fit, ready_part}
+use Rattle.apex_explore.specs.declared.fronts.Front.{Front}
+use Rattle.apex_jobs.specs.Rounds.{AreExpansions, AreLaidOut}
+use Rattle.apex_jobs.proofs.Rounds.{AreExpansions-later}
 use Rattle.apex_jobs.proofs.jobs.Jobs.go_on_at_once.Goals as goal
 
-pub go_on_for-requires-clause-over : goal.go_on_for-requires-clause-over
-go_on_for-requires-clause-over g c = over_turned (g.S.System.word_count c.args.system.now) (g.S.System.is_state c.args.system.now) (g.S.System.is_workspace c.args.system.now) c.args.search.now c.turn.new.self c.turn.new.self.front c.turn.ensures.same c.requires.over
-
-pub expand_parts-requires : goal.expand_parts-requires
-expand_parts-requires g c =
+pub loop-end-preserved : goal.loop-end-preserved
+loop-end-preserved g c =
     let step = step_within (g.S.System.choice_count c.args.system.now) (g.S.System.step c.args.system.now) in
-    let over : IsOver (g.S.System.word_count c.args.system.now) (g.S.System.is_state c.args.system.now) (g.S.System.is_workspace c.args.system.now) c.turn.new.self = over_turned (g.S.System.word_count c.args.system.now) (g.S.System.is_state c.args.system.now) (g.S.System.is_workspace c.args.system.now) c.args.search.now c.turn.new.self c.turn.new.self.front c.turn.ensures.same c.requires.over in
-    let above : c.in-Some.places.from ≤ c.in-Some.places.from + c.states_at_once-count.result = omega arith in
-    let below : c.in-Some.places.from + c.states_at_once-count.result ≤ c.in-Some.places.limit = omega (arith, c.states_at_once-count.ensures.within, c.in-Some.ensures.left.some) in
-    let part : IsPart (g.S.System.word_count c.args.system.now) (g.S.System.is_state c.args.system.now) c.states-states.result.now c.in-Some.places.from (c.in-Some.places.from + c.states_at_once-count.result) = rw c.states-states.ensures (ready_part step (g.S.System.start c.args.system.now) (g.S.System.word_count c.args.system.now) (g.S.System.is_state c.args.system.now) (g.S.System.is_workspace c.args.system.now) c.turn.new.self c.in-Some.places (c.in-Some.places.from + c.states_at_once-count.result) over c.turn.ensures.searched c.in-Some.ensures.left above below) in
-    (c.type_bounds.send-W, (c.type_bounds.sync-R, (c.type_bounds.sync-S, part)))
-
-pub take-requires-clause-over : goal.take-requires-clause-over
-take-requires-clause-over g c = over_turned (g.S.System.word_count c.args.system.now) (g.S.System.is_state c.args.system.now) (g.S.System.is_workspace c.args.system.now) c.args.search.now c.turn.new.self c.turn.new.self.front c.turn.ensures.same c.requires.over
-
-pub take-requires-clause-fit : goal.take-requires-clause-fit
-take-requires-clause-fit g c =
-    let step = step_within (g.S.System.choice_count c.args.system.now) (g.S.System.step c.args.system.now) in
-    let over : IsOver (g.S.System.word_count c.args.system.now) (g.S.System.is_state c.args.system.now) (g.S.System.is_workspace c.args.system.now) c.turn.new.self = over_turned (g.S.System.word_count c.args.system.now) (g.S.System.is_state c.args.system.now) (g.S.System.is_workspace c.args.system.now) c.args.search.now c.turn.new.self c.turn.new.self.front c.turn.ensures.same c.requires.over in
-    let above : c.in-Some.places.from ≤ c.in-Some.places.from + c.states_at_once-count.result = omega arith in
-    let below : c.in-Some.places.from + c.states_at_once-count.result ≤ c.in-Some.places.limit = omega (arith, c.states_at_once-count.ensures.within, c.in-Some.ensures.left.some) in
-    let are = rw c.states-states.ensures at c.in_ok-expansions.ensures in
-    rw c.as_slice.ensures.value (ready_fit step (g.S.System.start c.args.system.now) (g.S.System.word_count c.args.system.now) (g.S.System.is_state c.args.system.now) (g.S.System.is_workspace c.args.system.now) c.turn.new.self c.in-Some.places (c.in-Some.places.from + c.states_at_once-count.result) over c.turn.ensures.searched c.in-Some.ensures.left above below c.in_ok-expansions.expansions.items are)
+    let is_state = g.S.System.is_state c.args.system.now in
+    let taken = c.in_ok-stop.ensures.taken in
+    let past = taken.past c.in-None.is in
+    let same = c.in_ok-lay_out_all-2.ensures.same in
+    let old = c.loop-end.search in
+    let base = c.lay_out_all-in-loop-end.new.search in
+    let new = c.take_and_expand.new.search in
+    let end = c.loop-end.end in
+    let next : ℕ = end + c.min.result in
+    let laid : AreLaidOut is_state base.states end next c.lay_out_all-in-loop-end.new.desks = rw same.states c.in_ok-lay_out_all-2.ensures.laid in
+    let width : base.states.width ≡ g.S.System.word_count c.args.system.now = rw same.states c.loop-end.invariant.over.width in
+    let found = c.in_ok-stop.ensures.expansions base.states end next width laid in
+    let kept = AreExpansions-later step is_state base.states new.states end next c.in_ok-stop.more.items taken.states (taken.over.width ∙ sym width) found in
+    let From : ℕ → Type 0 = λ n. AreExpansions step is_state new.states n next c.in_ok-stop.more.items in
+    let level : base.front.level_end ≡ old.front.level_end = ap (λ (f : Front). f.level_end) same.front in
+    record {
+      over = taken.over;
+      searched = taken.searched;
+      desks = c.in_ok-stop.ensures.desks;
+      expansions = subst From (sym past.at) kept;
+      further = omega (arith, past.at, c.loop-end.invariant.further, c.loop-end.invariant.before);
+      before = omega (arith, past.at, c.min.ensures, c.states_at_once-size.ensures.some, c.loop-end-test.true);
+      within = omega (arith, c.min.ensures, c.loop-end-test.true);
+      level = past.level ∙ (level ∙ c.loop-end.invariant.level);
+      room = taken.room ∙ (ap (λ s. s.room) same.states ∙ c.loop-end.invariant.room);
+    }

@@ -1,5 +1,5 @@
 -- A greater response is found, and the end.
-use Rattle.std.proofs.Common.{◌≡◌, ℕ, arith, subst}
+use Rattle.std.proofs.Common.{ℕ, arith, subst}
 use Rattle.apex_search.specs.Worst.{AllBelow, AllBelowWithin, IsSlower}
 use Rattle.apex_search.proofs.Responses.{again, rising_begins, rising_more}
 use Rattle.apex_search.proofs.systems.TableSystem.greatest_response.Goals as goal

@@ -1,5 +1,5 @@
 -- The job is read off the form, and there is one.
-use Rattle.std.proofs.Common.{◌≡◌, ◌∙◌, ℕ, List, subst, sym}
+use Rattle.std.proofs.Common.{◌∙◌, sym}
 use Rattle.apex_choices.specs.Counts.{paced_in}
 use Rattle.apex_search.proofs.Responses.{has_job, job_is}
 use Rattle.apex_search.proofs.systems.TableSystem.job_of.Goals as goal

@@ -67,7 +67,7 @@ pub returns-clause-workspace : goal.returns-clause-workspace
 returns-clause-workspace c =
     let s = c.self.inside in
     let was : IsWorkplace s.table c.args.workplace.now = rw (← c.self.view_is) at c.requires.workspace in
-    rw (← c.self.view_is) (made_anew s.table _ _ c.step-taken.result.1 was c.copied-paced.ensures.here refl c.step-taken.ensures.parts
+    rw (← c.self.view_is) (made_anew s.table _ _ c.step-taken.new.paced was c.copied-paced.ensures.here refl c.step-taken.ensures.parts
     c.copied-paced.ensures.blank)
 
 pub returns-clause-inside : goal.returns-clause-inside

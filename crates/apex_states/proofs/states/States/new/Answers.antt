@@ -1,6 +1,5 @@
-use Rattle.std.proofs.Common.{rules, ◌≡◌, ℕ, ◌+◌, ◌*◌, ◌/◌, ◌≤◌, List, [], ◌∷◌, length, drop, replicate, refl, sym, ap, ◌∙◌, subst, arith, vec_capacity}
+use Rattle.std.proofs.Common.{rules, ◌≡◌, ℕ, ◌+◌, ◌*◌, ◌/◌, ◌≤◌, List, [], ◌∷◌, length, refl, sym, ◌∙◌, subst, arith, vec_capacity}
 use Rattle.apex_states.specs.Nodes.{IsTree, Joins}
-use Rattle.apex_states.specs.States.{padded}
 use Rattle.apex_states.specs.declared.states.TheConstants.{DEPTH}
 use Rattle.apex_states.proofs.Storing.{IsStored-held, IsStored-start}
 use Rattle.apex_states.proofs.states.States.new.Goals as goal
@@ -15,11 +14,8 @@ invariant_of-result c =
     let here_long : length here ≡ c.in-Some.size = search rules in
     let words_long : length words ≡ 16 * part = omega (arith, long, size) in
     let wide : c.args.width ≤ 16 * part = omega arith in
-    let all : words ≡ replicate c.in-Some.size 0 = search rules in
-    let padded_is : c.in-Some.size ≡ padded c.args.width = omega (arith, size) in
-    let zeros : words ≡ replicate (padded c.args.width) 0 = all ∙ ap (λ n. replicate n 0) padded_is in
     let start = IsStored-start c.args.width part c.args.room c.in-Some.size c.in_ok-roots.roots c.in_ok-nodes.nodes c.in_ok-origins.origins.items (vec_capacity c.in_ok-origins.origins) words
-    c.in_ok-roots.ensures c.in_ok-nodes.ensures c.in_ok-origins.ensures.items c.in_ok-origins.ensures.capacity words_long wide words_long (ap (drop c.args.width) zeros) in
+    c.in_ok-roots.ensures c.in_ok-nodes.ensures c.in_ok-origins.ensures.items c.in_ok-origins.ensures.capacity words_long wide in
     let stored = IsStored-held c.args.width c.in_ok-roots.roots c.in_ok-nodes.nodes c.number_halves.new.self c.in_ok-origins.origins.items (vec_capacity c.in_ok-origins.origins) words words start c.number_halves.ensures.held c.number_halves.ensures.exact refl refl in
     let Is : List ℕ → Type 0 = λ ws. Joins (IsTree c.number_halves.new.self DEPTH) (c.in_ok-pair.pair ∷ []) ws in
     (stored, record { long = here_long ∙ sym long; joins = subst Is c.as_slice.ensures.value c.in_ok-pair.ensures.halves })

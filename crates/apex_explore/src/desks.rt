@@ -1,0 +1,58 @@
+//! Desks at which states are expanded beside the search.
+ghost use Rattle.std.specs.Prelude.{◌≡◌, IfOk, None};
+ghost use Rattle.apex_explore.specs.Desks.{IsDesk, IsMade, IsReady};
+ghost use Rattle.apex_explore.specs.Systems.{step_within};
+
+use crate::parts::{Expansion, expand_batch};
+use crate::systems::System;
+use apex_states::Batch;
+use std::alloc::{AllocError, Global};
+
+/// What one thread needs to expand states: copies of them, and a workspace of its own.
+#[derive(Drop)]
+pub struct Desk<W> {
+    pub(crate) workspace: W,
+    /// The words of the state to which a choice goes on.
+    pub(crate) next: Vec<u64>,
+    /// The states that are expanded.
+    pub(crate) batch: Batch,
+    /// What the choices in these states do, once that is made.
+    pub(crate) made: Option<Result<Expansion, AllocError>>,
+}
+
+impl<W: Drop> Desk<W> {
+    /// A desk without states. It takes a workspace and the words of a state. Fails only for want of
+    /// memory.
+    pub fn new<S: System<Workspace = W>>(alloc: Global, system: &S) -> Result<Desk<W>, AllocError>
+        ensures { IfOk result (IsDesk (S.word_count system.now) (S.is_workspace system.now)) }
+    {
+        let width = system.width();
+        Ok(Desk {
+            workspace: system.workspace(alloc)?,
+            next: vec![in alloc; 0; width]?,
+            batch: Batch::new(alloc, width),
+            made: None,
+        })
+    }
+
+    /// Makes each choice in the states of the desk, until one hits.
+    pub fn expand<S: System<Workspace = W>>(&mut self, alloc: Global, system: &S)
+        requires desk { IsDesk (S.word_count system.now) (S.is_workspace system.now) self.old }
+        requires ready { IsReady (S.is_state system.now) self.old }
+        ensures { let step = step_within (S.choice_count system.now) (S.step system.now) in
+            IsMade step (S.word_count system.now) (S.is_state system.now)
+            (S.is_workspace system.now) self.old.batch self.new }
+    {
+        let next = self.next.as_mut_slice();
+        let made = expand_batch(alloc, system, &mut self.workspace, next, &self.batch);
+        self.made = Some(made);
+    }
+
+    /// What was made at the desk, if it was not taken yet.
+    pub fn take(&mut self) -> Option<Result<Expansion, AllocError>>
+        ensures made { result ≡ self.old.made }
+        ensures same { self.new ≡ record self.old { made = None } }
+    {
+        self.made.take()
+    }
+}

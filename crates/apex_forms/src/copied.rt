@@ -1,0 +1,104 @@
+//! A situation that is known, in the memory of another one of its table.
+ghost use Rattle.std.specs.Prelude.{◌≡◌, length};
+ghost use Rattle.apex_choices.specs.Counts.{IsSamePaced, paced_in};
+ghost use Rattle.apex_forms.specs.Copied.{AreOfKinds, AreSameBuffers};
+ghost use Rattle.apex_forms.specs.Restored.{IsOfTable, IsStored, paced_from};
+
+use crate::codes::mode_in;
+use crate::restored::{counts_in, first_stamp, works_in};
+use apex_buffer::Buffer;
+use apex_choices::PacedSituation;
+use apex_dispatch::{Objects, Situation};
+use apex_store::{Object, PlainStore, Store};
+use apex_table::Table;
+use apex_types::{MOST_MESSAGES, Message, ProcessId};
+use arrayvec::ArrayVec;
+
+/// The messages of the buffer.
+fn messages_of(buffer: &Buffer) -> ArrayVec<Message, MOST_MESSAGES>
+    ensures { result.items ≡ buffer.now.messages }
+{
+    let mut messages = ArrayVec::new();
+    let done = messages.try_extend_from_slice(buffer.messages());
+    let fits = done.is_ok();
+    prove!(fits);
+    messages
+}
+
+/// The buffers are as these others from now on.
+fn copy_buffers(buffers: &mut [Buffer], others: &[Buffer])
+    requires { AreSameBuffers buffers.old others.now }
+    ensures { buffers.new ≡ others.now }
+{
+    for place in 0..buffers.len() {
+        let other = &others[place];
+        buffers[place].restore(other.is_created(), messages_of(other));
+    }
+}
+
+/// The objects are as these others from now on.
+fn copy_objects(objects: &mut Objects, others: &Objects)
+    requires { AreOfKinds objects.old others.now }
+    ensures { objects.new ≡ others.now }
+{
+    objects
+        .processes
+        .as_mut_slice()
+        .copy_from_slice(others.processes.as_slice());
+    objects
+        .semaphores
+        .as_mut_slice()
+        .copy_from_slice(others.semaphores.as_slice());
+    copy_buffers(objects.buffers.as_mut_slice(), others.buffers.as_slice());
+    objects
+        .blackboards
+        .as_mut_slice()
+        .copy_from_slice(others.blackboards.as_slice());
+    objects
+        .event_flags
+        .as_mut_slice()
+        .copy_from_slice(others.event_flags.as_slice());
+    objects
+        .mutexes
+        .as_mut_slice()
+        .copy_from_slice(others.mutexes.as_slice());
+}
+
+/// The processes have the records of these others from now on.
+fn copy_records(store: &mut PlainStore, others: &PlainStore)
+    requires { length store.old.records ≡ length others.now.records }
+    ensures { store.new ≡ record store.old { records = others.now.records } }
+{
+    for place in 0..others.process_count() {
+        let process = ProcessId::at(place as u8);
+        store.put(process, *others.record(process));
+    }
+}
+
+/// The situation of these words and what the pace counts there, in the memory of this one;
+/// `known` is that situation.
+pub fn restore_known(
+    paced: PacedSituation,
+    table: &Table,
+    known: &PacedSituation,
+    words: &[u64],
+) -> PacedSituation
+    requires table { IsOfTable table.now (paced_in paced).situation }
+    requires words { IsStored table.now words.now }
+    requires known { IsSamePaced (paced_in known.now) (paced_from table.now words.now) }
+    ensures { IsSamePaced (paced_in result) (paced_from table.now words.now) }
+{
+    table.lawful();
+    let PacedSituation { situation, .. } = paced;
+    let (mut store, mut objects, _, _) = situation.into_parts();
+    let young = first_stamp(store.process_count());
+    copy_records(&mut store, known.situation.store());
+    store.set_clock(mode_in(words[0]), words[1], young, 0);
+    copy_objects(&mut objects, known.situation.objects());
+    let cores = table.cores();
+    let works = works_in(cores, words);
+    PacedSituation {
+        situation: Situation::new(store, objects, works, words[2] as usize),
+        counts: counts_in(cores, words),
+    }
+}
