@@ -1,5 +1,4 @@
 pub mod Written
-pub mod Places
 pub mod Lasts
 pub mod LastEntries
 pub mod Shortest

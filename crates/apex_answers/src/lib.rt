@@ -5,13 +5,11 @@
 mod answers;
 mod census;
 mod printing;
-mod processes;
 mod texts;
 mod words;
 mod worst;
 
 pub use answers::{SearchAnswer, answer_of};
 pub use census::print_census;
-pub use processes::process_of;
 pub use words::{fact_of, word_of};
 pub use worst::{WorstAnswer, worst_of};

@@ -39,6 +39,17 @@ turned_at front count = elim (cases_Bool (front.at == front.level_end)) [
   | inr other ↦ ap (λ (f : Front). f.at) (turned-same front count other)
 ]
 
+-- a place in the level, or behind its end if the front is there, is in the level of the front's next state
+pub turned_level : (front : Front) (count place : ℕ) → place ≤ count → (front.at < front.level_end → place ≤ front.level_end) → front.at ≤ front.level_end → place ≤ (turned front count).level_end
+turned_level front count place all level in_order =
+    let Ends : Front → Type 0 = λ f. place ≤ f.level_end in
+    elim (cases_Bool (front.at == front.level_end)) [
+      | inl same ↦ subst Ends (sym (turned-end front count same)) all
+      | inr other ↦
+          let differ = not_from_Decides (front.at == front.level_end) (Decides-eqb front.at front.level_end) other in
+          subst Ends (sym (turned-same front count other)) (level (omega (arith, in_order, differ)))
+    ]
+
 module _ {K : Type 0} (step : K → ℕ → Step K) where
   pub IsChild-widen : {states states' : List K} {origins origins' : List Origin} (parent place : ℕ) → IsFront states states' → IsFront origins origins' → IsChild step states origins parent place → IsChild step states' origins' parent place
   IsChild-widen parent place f g child = record {

@@ -1,7 +1,7 @@
 //! A search that can go on after an answer.
 ghost use Rattle.std.specs.Prelude.{◌≡◌, ◌≤◌, ◌+◌, ◌^◌, length, IfOk, IfSome, None};
 ghost use Rattle.apex_explore.specs.Answers.{Says};
-ghost use Rattle.apex_explore.specs.Levels.{Stops};
+ghost use Rattle.apex_explore.specs.Levels.{Stops, turned};
 ghost use Rattle.apex_explore.specs.Parts.{Fit, IsPast};
 ghost use Rattle.apex_explore.specs.Searches.{AreLeft, IsOver, IsSameSearch, IsSearched, IsSearchedBefore, IsUnderWay, room_of};
 ghost use Rattle.apex_explore.specs.Systems.{step_within};
@@ -107,6 +107,8 @@ impl<W: Drop> Search<W> {
         ensures done { result ≡ None → length self.new.states.states ≤ self.new.front.at }
         ensures same { self.new ≡ record self.old { front = self.new.front } }
         ensures further { self.old.front.at ≡ self.new.front.at }
+        ensures turned { IfSome result (λ _.
+            self.new.front ≡ turned self.old.front (length self.old.states.states)) }
     {
         let states = self.states.len();
         if self.front.at >= states {

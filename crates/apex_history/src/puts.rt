@@ -590,3 +590,27 @@ pub fn put_line(lines: &mut Lines, table: &Table, steps: &mut NextSteps, entry: 
 {
     put_parts(lines, table, steps, &EntryParts::of(entry));
 }
+
+/// Puts what the entry's caller asked for, as the entry's line has it: the step of a call, a tick or an
+/// idle turn. Takes no memory. A call that is the next one of its caller by `steps` is put fastest.
+#[inline(always)]
+pub fn put_call_of(lines: &mut Lines, table: &Table, steps: &mut NextSteps, entry: &LentEntry<'_>)
+    requires printable { IsPrintable table.now entry.now }
+    requires room { array_vec_len lines.old + MOST_LINE ≤ LINES_ROOM }
+    ensures text { lines.new.items ≡ lines.old.items
+        ++ asked_text table.now entry.entry.now.call entry.entry.now.reply }
+    ensures short { array_vec_len lines.new ≤ array_vec_len lines.old + MOST_LINE }
+{
+    put_asked(lines, table, steps, &EntryParts::of(entry));
+}
+
+/// Puts the entry's reply, with an arrow before it, as the entry's line has it. Takes no memory.
+#[inline(always)]
+pub fn put_reply_of(lines: &mut Lines, table: &Table, entry: &LentEntry<'_>)
+    requires room { array_vec_len lines.old + MOST_LINE ≤ LINES_ROOM }
+    ensures text { lines.new.items ≡ lines.old.items
+        ++ codes " -> " ++ reply_text table.now entry.entry.now.reply }
+    ensures short { array_vec_len lines.new ≤ array_vec_len lines.old + MOST_LINE }
+{
+    put_reply(lines, table, &entry.reply);
+}

@@ -1,5 +1,5 @@
 //! A search by several threads.
-ghost use Rattle.std.specs.Prelude.{◌≡◌, ◌<◌, ◌≤◌, length, IfOk, IfSome, None};
+ghost use Rattle.std.specs.Prelude.{◌≡◌, ◌+◌, ◌<◌, ◌≤◌, length, IfOk, IfSome, None};
 ghost use Rattle.apex_explore.specs.Answers.{Says};
 ghost use Rattle.apex_explore.specs.Desks.{IsDesk};
 ghost use Rattle.apex_explore.specs.Levels.{Stops};
@@ -16,13 +16,30 @@ use std::marker::{Send, Sync};
 use std::thread::Threads;
 
 /// A desk has at most this many states at once.
-const MOST_STATES: usize = 512;
+const MOST_STATES: usize = 2048;
 
 /// To expand fewer states than this takes less time than to begin a thread.
 const LEAST_STATES: usize = 32;
 
 /// A level is cut into this many rounds if that gives each desk neither too many states nor too few.
-const ROUNDS: usize = 8;
+const ROUNDS: usize = 1;
+
+/// Of `states` states, the number of those from the place `end` on that can be laid out while those before
+/// are kept. They are those of the level, which ends at `limit`. At its end they are those of the next one
+/// that are there, unless there are too few for this many desks.
+fn states_ahead(states: usize, end: usize, limit: usize, desks: usize) -> usize
+    requires in_order { end ≤ limit }
+    requires within { limit ≤ states }
+    requires some { 0 < desks }
+    ensures within { end + result ≤ states }
+    ensures level { end < limit → end + result ≤ limit }
+{
+    if end < limit {
+        return limit - end;
+    }
+    let left = states - end;
+    if left / LEAST_STATES < desks { 0 } else { left }
+}
 
 /// The threads among which the states of a level are split.
 #[derive(Clone, Copy)]
@@ -160,7 +177,8 @@ impl<'r, R: Threads + Sync> Jobs<'r, R> {
     }
 
     /// Goes on for these states of a level, some at a time: while threads expand some, the caller keeps what
-    /// was found before. It stops before their end if there is an answer: why it stops then. Fails only for
+    /// was found before. At the end of the level it goes on with the next one, as long as there are enough
+    /// states for the desks. It stops before that if there is an answer: why it stops then. Fails only for
     /// want of memory.
     fn go_on_at_once<W: Drop + Send, S: System<Workspace = W> + Sync, V: Watch>(
         &self,
@@ -191,14 +209,17 @@ impl<'r, R: Threads + Sync> Jobs<'r, R> {
         ensures desks { IfOk result (λ stop. stop ≡ None
             → AllAre (IsDesk (S.word_count system.now) (S.is_workspace system.now)) desks.new) }
     {
-        let Places { from, limit } = places;
-        let size = self.states_at_once(limit - from);
-        let mut end = from + size;
+        let Places { from, mut limit } = places;
+        let mut end = from + self.states_at_once(limit - from);
         lay_out_all(system, search, desks, from, end)?;
         let mut expansions = expand_all(self.rt, alloc, system, desks)?;
-        while end < limit {
+        loop {
             search.show(watch);
-            let next = end + size.min(limit - end);
+            let left = states_ahead(search.len(), end, limit, desks.len());
+            if left == 0 {
+                return search.take(alloc, system, end, expansions.as_slice());
+            }
+            let next = end + self.states_at_once(left);
             lay_out_all(system, search, desks, end, next)?;
             let found = expansions.as_slice();
             let (stop, more) = take_and_expand(self.rt, alloc, system, search, end, found, desks)?;
@@ -206,9 +227,12 @@ impl<'r, R: Threads + Sync> Jobs<'r, R> {
                 Some(stop) => return Ok(Some(stop)),
                 None => {}
             }
+            let Some(places) = search.turn(system) else {
+                return Ok(Some(Stop::Done));
+            };
+            limit = places.limit;
             expansions = more;
             end = next;
         }
-        search.take(alloc, system, end, expansions.as_slice())
     }
 }

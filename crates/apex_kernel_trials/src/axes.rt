@@ -7,10 +7,10 @@ ghost use Rattle.apex_machine.specs.Machine.{opening};
 use crate::scans::booted;
 use apex_dispatch::Kernel;
 use apex_history::Counted;
-use apex_pictures::{Axis, Frame, Style, draw};
+use apex_pictures::{Axis, Extent, Frame, Side, Style, draw};
 use apex_process::QueueStore;
 use apex_table::read_table;
-use apex_types::{CoreId, Event};
+use apex_types::{CoreId, Event, ProcessId};
 use std::alloc::Global;
 use std::mem::drop;
 use std::process::Abort;
@@ -51,19 +51,26 @@ fn kernel_of<R: Abort>(rt: &R, alloc: Global, text: &str) -> Kernel<QueueStore>
     booted(rt, alloc, table)
 }
 
-/// The frame of a run of these events, with its columns along this axis.
+/// The frame of a run of these events, with its columns along this axis, and with rows for these
+/// processes, or for all.
 pub(crate) fn frame_of<R: Abort>(
     rt: &R,
     alloc: Global,
     text: &str,
     axis: Axis,
     events: &[Event],
+    only: Option<&[ProcessId]>,
 ) -> Frame
     requires { All (IsWithin 1) events.now }
 {
     let mut kernel = kernel_of(rt, alloc, text);
     assert!(rt; kernel.run(events).is_ok());
-    let frame = Frame::new(alloc, axis, &kernel, 1, events.len() as u32);
+    let extent = Extent {
+        first: 1,
+        last: events.len() as u32,
+        side: Side::First,
+    };
+    let frame = Frame::new(alloc, &kernel, axis, extent, only);
     drop(kernel);
     frame.expect(rt, "memory")
 }
@@ -88,7 +95,7 @@ pub(crate) fn drawn<R: Abort>(
 }
 
 /// Finds each of the texts behind the one before it.
-fn find_in_order<R: Abort>(rt: &R, text: &str, wanted: &[&str]) {
+pub(crate) fn find_in_order<R: Abort>(rt: &R, text: &str, wanted: &[&str]) {
     let mut rest = text;
     for part in wanted {
         let (_, behind) = rest.split_once(*part).expect(rt, "the part");
@@ -99,7 +106,7 @@ fn find_in_order<R: Abort>(rt: &R, text: &str, wanted: &[&str]) {
 #[test]
 fn by_entries_columns_stand_side_by_side(rt: HostRuntime) {
     let events = events();
-    let frame = frame_of(&rt, rt.alloc(), TABLE, Axis::Entries, &events);
+    let frame = frame_of(&rt, rt.alloc(), TABLE, Axis::Entries, &events, None);
     let picture = drawn(&rt, rt.alloc(), TABLE, frame, &events);
     let text = str::from_utf8(picture.as_slice()).expect(&rt, "a picture is text");
     find_in_order(
@@ -120,7 +127,7 @@ fn by_entries_columns_stand_side_by_side(rt: HostRuntime) {
 #[test]
 fn by_time_the_ticks_have_room(rt: HostRuntime) {
     let events = events();
-    let frame = frame_of(&rt, rt.alloc(), TABLE, Axis::Time, &events);
+    let frame = frame_of(&rt, rt.alloc(), TABLE, Axis::Time, &events, None);
     let picture = drawn(&rt, rt.alloc(), TABLE, frame, &events);
     let text = str::from_utf8(picture.as_slice()).expect(&rt, "a picture is text");
     find_in_order(

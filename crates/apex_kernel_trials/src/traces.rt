@@ -1,8 +1,9 @@
-//! The counters of a trace, the slices of its processes and mutexes, and the marks of its notices.
+//! The counters of a trace, the slices of its processes, its mutexes and its calls, and the marks and
+//! the arrows of its notices.
 
 use crate::scans::booted;
 use apex_history::Counted;
-use apex_pictures::{Style, draw};
+use apex_pictures::{Style, TickLength, draw};
 use apex_table::read_table;
 use apex_types::{CoreId, Event};
 use std::alloc::Global;
@@ -120,22 +121,36 @@ const MUTEX_SLICES: [&str; 4] = [
     r#"17}"#,
 ];
 
+/// The same with ticks of 250 microseconds: each moment lies a quarter of a microsecond behind the one
+/// before it.
+const SHORT_MUTEX_SLICES: [&str; 4] = [
+    r#"3,"args":{"now":0},"name":"LOW"},"#,
+    r#"3.75},"#,
+    r#"4,"args":{"now":0},"name":"HIGH"},"#,
+    r#"4.25}"#,
+];
+
 /// By this a line of the trace is one on the track of the process HIGH.
 const HIGH: &str = "\"pid\":2,\"tid\":1,\"ts\":";
 
-/// What follows that in each of these lines. HIGH is started in COLD_START, by entry 8.
-const HIGH_SLICES: [&str; 12] = [
+/// What follows that in each of these lines: slices of states and of calls, marks, and the ends of
+/// arrows. HIGH is started in COLD_START, by entry 8.
+const HIGH_TRACK: [&str; 16] = [
     r#"8,"args":{"now":0},"name":"WAITING for normal"},"#,
     r#"10},"#,
     r#"10,"args":{"now":0},"name":"RUNNING"},"#,
     r#"10,"args":{"now":0},"name":"released"},"#,
+    r#"10,"cat":"notice","id":1280,"name":"released"},"#,
+    r#"10,"dur":1,"args":{"entry":11,"reply":"BLOCKED"},"name":"WAIT_EVENT E infinite"},"#,
     r#"11},"#,
     r#"11,"args":{"now":0},"name":"WAITING for event E"},"#,
     r#"14},"#,
     r#"14,"args":{"now":0},"name":"READY"},"#,
     r#"14,"args":{"now":0},"name":"woken NO_ERROR"},"#,
+    r#"14,"cat":"notice","id":1792,"name":"woken"},"#,
     r#"15},"#,
     r#"15,"args":{"now":0},"name":"RUNNING"},"#,
+    r#"15,"dur":1,"args":{"entry":16,"reply":"NO_ERROR"},"name":"ACQUIRE_MUTEX M infinite"},"#,
     r#"17}"#,
 ];
 
@@ -150,14 +165,56 @@ const MARKS: [&str; 3] = [
     r#","s":"t","pid":2,"tid":1,"ts":10,"args":{"now":0},"name":"woken NO_ERROR"},"#,
 ];
 
-/// The trace of 16 turns.
-fn trace_of<R: Abort>(rt: &R, alloc: Global, table: &str) -> Vec<u8> {
+/// By this a line of the trace is the slice of a call.
+const CALL: &str = "\"ph\":\"X\"";
+
+/// What follows that in each of these lines: the init list has eight entries, each process has two, and
+/// the other turns are idle. An entry's slice begins at the moment before it.
+const CALLS: [&str; 12] = [
+    r#","pid":4,"tid":1,"ts":0,"dur":1,"args":{"entry":1,"reply":"NO_ERROR"},"name":"CREATE_SEMAPHORE S"},"#,
+    r#","pid":4,"tid":1,"ts":1,"dur":1,"args":{"entry":2,"reply":"NO_ERROR"},"name":"CREATE_PROCESS HIGH"},"#,
+    r#","pid":4,"tid":1,"ts":2,"dur":1,"args":{"entry":3,"reply":"NO_ERROR"},"name":"INITIALIZE_PROCESS_CORE_AFFINITY HIGH 0"},"#,
+    r#","pid":4,"tid":1,"ts":3,"dur":1,"args":{"entry":4,"reply":"NO_ERROR"},"name":"CREATE_PROCESS LOW"},"#,
+    r#","pid":4,"tid":1,"ts":4,"dur":1,"args":{"entry":5,"reply":"NO_ERROR"},"name":"INITIALIZE_PROCESS_CORE_AFFINITY LOW 0"},"#,
+    r#","pid":4,"tid":1,"ts":5,"dur":1,"args":{"entry":6,"reply":"NO_ERROR"},"name":"START HIGH"},"#,
+    r#","pid":4,"tid":1,"ts":6,"dur":1,"args":{"entry":7,"reply":"NO_ERROR"},"name":"START LOW"},"#,
+    r#","pid":4,"tid":1,"ts":7,"dur":1,"args":{"entry":8,"reply":"NO_ERROR"},"name":"SET_PARTITION_MODE NORMAL"},"#,
+    r#","pid":2,"tid":1,"ts":8,"dur":1,"args":{"entry":9,"reply":"BLOCKED"},"name":"WAIT_SEMAPHORE S infinite"},"#,
+    r#","pid":2,"tid":2,"ts":9,"dur":1,"args":{"entry":10,"reply":"NO_ERROR"},"name":"SIGNAL_SEMAPHORE S"},"#,
+    r#","pid":2,"tid":1,"ts":10,"dur":1,"args":{"entry":11,"reply":"GONE"},"name":"STOP_SELF"},"#,
+    r#","pid":2,"tid":2,"ts":11,"dur":1,"args":{"entry":12,"reply":"GONE"},"name":"STOP_SELF"},"#,
+];
+
+/// By this a line of the trace is the beginning of an arrow.
+const TAIL: &str = "\"ph\":\"s\"";
+
+/// What follows that in each of these lines: an arrow's number is 128 times that of its entry, and the
+/// place of its notice.
+const TAILS: [&str; 3] = [
+    r#","pid":4,"tid":1,"ts":7,"cat":"notice","id":1024,"name":"released"},"#,
+    r#","pid":4,"tid":1,"ts":7,"cat":"notice","id":1025,"name":"released"},"#,
+    r#","pid":2,"tid":2,"ts":9,"cat":"notice","id":1280,"name":"woken"},"#,
+];
+
+/// By this a line of the trace is the end of an arrow.
+const HEAD: &str = "\"ph\":\"f\"";
+
+/// What follows that in each of these lines.
+const HEADS: [&str; 3] = [
+    r#","bp":"e","pid":2,"tid":1,"ts":8,"cat":"notice","id":1024,"name":"released"},"#,
+    r#","bp":"e","pid":2,"tid":2,"ts":8,"cat":"notice","id":1025,"name":"released"},"#,
+    r#","bp":"e","pid":2,"tid":1,"ts":10,"cat":"notice","id":1280,"name":"woken"},"#,
+];
+
+/// The trace of 16 turns, with ticks of this many microseconds.
+fn trace_of<R: Abort>(rt: &R, alloc: Global, table: &str, tick: u32) -> Vec<u8> {
     let table = read_table(alloc, table.as_bytes()).expect(rt, "the table is lawful");
     assert!(rt; table.cores() == 1);
     let mut kernel = booted(rt, alloc, table);
     let turns = [Event::Turn(CoreId::new(0)); 16];
     let mut trace = Counted::new(Vec::new(alloc));
-    let drawn = draw(alloc, &Style::Trace, &mut kernel, &turns, &mut trace);
+    let tick = TickLength::new(tick).expect(rt, "a tick may have this length");
+    let drawn = draw(alloc, &Style::Trace(tick), &mut kernel, &turns, &mut trace);
     drop(kernel);
     drawn.expect(rt, "memory");
     trace.into_inner()
@@ -171,14 +228,18 @@ fn behind<'t>(text: &'t str, word: &str) -> Option<&'t str> {
     }
 }
 
-/// Tables, each with the word by which a line of the trace is of a kind, and what follows it in these
-/// lines.
-const TRACES: [(&str, &str, &[&str]); 5] = [
-    (TABLE, COUNTER, &COUNTERS),
-    (OBJECTS_TABLE, COUNTER, &OBJECT_COUNTERS),
-    (OBJECTS_TABLE, MUTEX, &MUTEX_SLICES),
-    (OBJECTS_TABLE, HIGH, &HIGH_SLICES),
-    (NOTICES_TABLE, MARK, &MARKS),
+/// Tables, each with the length of a tick in microseconds, the word by which a line of the trace is of a
+/// kind, and what follows it in these lines.
+const TRACES: [(&str, u32, &str, &[&str]); 9] = [
+    (TABLE, 1_000, COUNTER, &COUNTERS),
+    (OBJECTS_TABLE, 1_000, COUNTER, &OBJECT_COUNTERS),
+    (OBJECTS_TABLE, 1_000, MUTEX, &MUTEX_SLICES),
+    (OBJECTS_TABLE, 250, MUTEX, &SHORT_MUTEX_SLICES),
+    (OBJECTS_TABLE, 1_000, HIGH, &HIGH_TRACK),
+    (NOTICES_TABLE, 1_000, MARK, &MARKS),
+    (NOTICES_TABLE, 1_000, CALL, &CALLS),
+    (NOTICES_TABLE, 1_000, TAIL, &TAILS),
+    (NOTICES_TABLE, 1_000, HEAD, &HEADS),
 ];
 
 /// Whether these are the parts of the text behind the word.
@@ -195,8 +256,8 @@ fn has_lines(text: &str, word: &str, lines: &[&str]) -> bool {
 
 #[test]
 fn a_trace_follows_the_entries(rt: HostRuntime) {
-    for (table, word, lines) in TRACES {
-        let trace = trace_of(&rt, rt.alloc(), table);
+    for (table, tick, word, lines) in TRACES {
+        let trace = trace_of(&rt, rt.alloc(), table, tick);
         let text = str::from_utf8(trace.as_slice()).expect(&rt, "a trace is text");
         assert!(rt; has_lines(text, word, lines));
     }

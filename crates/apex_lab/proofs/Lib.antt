@@ -3,3 +3,4 @@ pub mod Endings
 pub mod LintEndings
 pub mod SearchEndings
 pub mod SearchLemmas
+pub mod NameLists

@@ -14,6 +14,7 @@ abbrev pub fault_of_showing : ShowFault → LabFault
 fault_of_showing (showing.Common fault) = Common fault
 fault_of_showing (showing.Schedule bad) = Schedule bad
 fault_of_showing (showing.Empty window) = Empty window
+fault_of_showing (showing.NoProcess name) = NoProcess name
 
 -- the line that reports ill-formed words
 abbrev pub usage_line : List ℕ

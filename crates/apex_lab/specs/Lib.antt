@@ -3,6 +3,7 @@ pub mod Faults
 pub mod Numbers
 pub mod Windows
 pub mod Questions
+pub mod Names
 pub mod Tasks
 pub mod Ends
 pub mod Lints

@@ -5,6 +5,7 @@ use Rattle.apex_types.specs.Limits.{latest}
 use Rattle.apex_types.specs.Numbers.{at_least, at_most, number_of}
 use Rattle.apex_pace.specs.declared.paces.Pace.{Pace}
 use Rattle.apex_pace.specs.declared.paces.TheConstants.{USUAL_TURNS}
+use Rattle.apex_pictures.specs.Instants.{tick_length}
 use Rattle.apex_schedules.specs.Schedule.{positive_of}
 use Rattle.apex_lab.specs.declared.numbers.TheConstants.{MOST_JOBS, MOST_STATES, USUAL_STATES}
 
@@ -27,6 +28,11 @@ room_in (Some text) = at_least 1 (at_most MOST_STATES (number_of text))
 abbrev pub jobs_in : Option Text → Option ℕ
 jobs_in None = Some 1
 jobs_in (Some text) = at_least 1 (at_most MOST_JOBS (number_of text))
+
+-- the length of a tick that a text says, in microseconds, and 1,000 if there is no text
+abbrev pub tick_in : Option Text → Option ℕ
+tick_in None = Some 1000
+tick_in (Some text) = tick_length (number_of text)
 
 -- the time that a text says, in ticks, 0 to 2^36
 abbrev pub time_of : Text → Option ℕ

@@ -18,9 +18,9 @@ use Rattle.apex_table.specs.declared.TableFault.{TableFault}
 use Rattle.apex_answers.specs.Answers.{IsAnswerOf, Says, SearchEnd, answer_end, answer_text, finds, is_beyond, is_full, never}
 use Rattle.apex_answers.specs.Censuses.{SaysCensus, census_end, census_text}
 use Rattle.apex_answers.specs.Worst.{IsWorstAnswer, SaysWorst, worst_end, worst_text}
-use Rattle.apex_answers.specs.Processes.{place_of}
 use Rattle.apex_answers.specs.declared.SearchAnswer.{SearchAnswer}
 use Rattle.apex_answers.specs.declared.WorstAnswer.{WorstAnswer}
+use Rattle.apex_names.specs.Processes.{place_of}
 use Rattle.apex_search.specs.Census.{IsCensus}
 use Rattle.apex_search.specs.declared.Census.{Census}
 use Rattle.apex_lab.specs.declared.searching.LabAnswer.{LabAnswer}

@@ -8,13 +8,16 @@ use Rattle.apex_schedules.specs.declared.Item.{Item}
 use Rattle.apex_schedules.specs.Groups.{grouped_items_of}
 use Rattle.apex_schedules.specs.Schedule.{positive_of}
 use Rattle.apex_objects.specs.declared.Form.{Form}
+use Rattle.apex_pictures.specs.declared.Axis.{Axis}
 use Rattle.apex_views.specs.Faults.{IsBadIn}
-use Rattle.apex_views.specs.Showings.{Showing, Source, View, drawn, history, listed, paced, schedule, schedule_read, showing_said, showing_with, source_said, svg, trace}
+use Rattle.apex_views.specs.Showings.{Chart, Showing, Source, View, drawn, history, listed, paced, schedule, schedule_read, showing_said, showing_with, source_said, svg, trace}
 use Rattle.apex_lab.specs.Lints.{Lint, lint_asked, lint_said}
-use Rattle.apex_lab.specs.Numbers.{pace_in, time_of}
+use Rattle.apex_lab.specs.Names.{names_in}
+use Rattle.apex_lab.specs.Numbers.{pace_in, tick_in, time_of}
 use Rattle.apex_lab.specs.Questions.{search_asked}
 use Rattle.apex_lab.specs.Windows.{axis_in, window_between}
 use Rattle.apex_lab.specs.Words.{Given, Request, Shown, as_listing, as_svg, as_trace, by_history, by_pace, by_schedule, by_schedule_read, check_of, dump_of, lint_of, request_of, search_of, show_of, step_of, why_of}
+use Rattle.apex_views.specs.declared.Window.{Window}
 use Rattle.apex_lab.specs.declared.faults.LabFault.{LabFault}
 use Rattle.apex_lab.specs.declared.faults.LabFault.TheVariants.{Common, Empty, NoEntry, NoProcess, Schedule as BadText, StatesFull}
 use Rattle.apex_lab.specs.declared.questions.Search.{Search}
@@ -72,12 +75,23 @@ source_in by_schedule_read = Ok schedule_read
 source_in (by_pace until turns early) = or_unasked ill_formed (paced_source until turns early)
 source_in by_history = Ok history
 
--- how a run is shown; none if a bound or the word of an axis is ill-formed
-abbrev pub view_in : Shown → Option View
-view_in (as_svg first last axis) =
-    option_and_then (λ window. option_map (λ along. drawn (svg window along)) (axis_in axis))
+-- the chart of this window along an axis, with rows for the processes of these names, or for all
+abbrev pub chart_of : Window → Axis → Option (List Text) → Chart
+chart_of window axis only = record { window = window; axis = axis; only = only }
+
+-- how an SVG shows a run; none if a bound, the word of an axis or a name is ill-formed
+abbrev pub chart_in : Option Text → Option Text → Option Text → Option Text → Option Chart
+chart_in first last axis only =
+    option_and_then
+    (λ window. option_and_then (λ along. option_map (chart_of window along) (names_in only))
+    (axis_in axis))
     (window_between first last)
-view_in as_trace = Some (drawn trace)
+
+-- how a run is shown; none if a text is ill-formed
+abbrev pub view_in : Shown → Option View
+view_in (as_svg first last axis only) =
+    option_map (λ chart. drawn (svg chart)) (chart_in first last axis only)
+view_in (as_trace tick) = option_map (λ length. drawn (trace length)) (tick_in tick)
 view_in (as_listing listing) = Some (listed listing)
 
 -- the run of a source and a view, if both are there

@@ -26,13 +26,19 @@ view_command name =
     (option_rule (codes "turns")))
     (option_rule (codes "early"))
 
--- `svg`, which has `[--from N] [--to M] [--by AXIS]` too
+-- `svg`, which has `[--from N] [--to M] [--by AXIS] [--only NAME,NAME]` too
 abbrev pub svg : App
 svg =
     with_rule
+    (with_rule
     (with_rule (with_rule (view_command (codes "svg")) (option_rule (codes "from")))
     (option_rule (codes "to")))
-    (option_rule (codes "by"))
+    (option_rule (codes "by")))
+    (option_rule (codes "only"))
+
+-- `trace`, which has `[--tick-us N]` too
+abbrev pub trace_command : App
+trace_command = with_rule (view_command (codes "trace")) (option_rule (codes "tick-us"))
 
 -- the command of this name, with `[--json]` too
 abbrev pub json_view_command : Text → App
@@ -42,7 +48,7 @@ json_view_command name = with_rule (view_command name) (flag_rule (codes "json")
 abbrev pub lab_of_pictures : App
 lab_of_pictures =
     with_subcommand (with_subcommand (program_alone (codes "apex_lab")) svg.top)
-    (view_command (codes "trace")).top
+    trace_command.top
 
 -- with those for listings too
 abbrev pub lab_of_views : App
@@ -125,10 +131,11 @@ pub data Given : Type 0 where
 
 -- how a run is shown
 pub data Shown : Type 0 where
-  -- as SVG, with the texts of the first bound, of the last one and of the axis, if they are given
-  as_svg : Option Text → Option Text → Option Text → Shown
-  -- as a trace
-  as_trace : Shown
+  -- as SVG, with the texts of the first bound, of the last one, of the axis and of the names of
+  -- processes, if they are given
+  as_svg : Option Text → Option Text → Option Text → Option Text → Shown
+  -- as a trace, with the text of the length of a tick, if it is given
+  as_trace : Option Text → Shown
   -- as this listing
   as_listing : Listing → Shown
 
@@ -179,10 +186,10 @@ given_said source.History = by_history
 
 -- how a run is shown, of a value of the program
 abbrev pub shown_said : ViewWords → Shown
-shown_said (view.Svg first last axis) =
+shown_said (view.Svg first last axis only) =
     as_svg (option_map (λ text. text.now) first) (option_map (λ text. text.now) last)
-    (option_map (λ text. text.now) axis)
-shown_said view.Trace = as_trace
+    (option_map (λ text. text.now) axis) (option_map (λ text. text.now) only)
+shown_said (view.Trace tick) = as_trace (option_map (λ text. text.now) tick)
 shown_said (view.Listing listing) = as_listing listing
 
 -- what a search is for, of a value of the program
@@ -243,7 +250,11 @@ shown_in shown rows = option_map (λ given. show_of given shown) (given_in rows)
 abbrev pub svg_in : List Row → Shown
 svg_in rows =
     as_svg (first_of (codes "from") rows) (first_of (codes "to") rows)
-    (first_of (codes "by") rows)
+    (first_of (codes "by") rows) (first_of (codes "only") rows)
+
+-- how the trace for the rows of a command is shown
+abbrev pub trace_in : List Row → Shown
+trace_in rows = as_trace (first_of (codes "tick-us") rows)
 
 -- the form of a listing, by the text of the flag
 abbrev pub form_of : Option Text → Form
@@ -257,7 +268,7 @@ form_in rows = form_of (first_of (codes "json") rows)
 abbrev pub view_of : Text → List Row → Option Shown
 view_of name rows =
     if bytes_eq name (codes "svg") then Some (svg_in rows)
-    else if bytes_eq name (codes "trace") then Some as_trace
+    else if bytes_eq name (codes "trace") then Some (trace_in rows)
     else if bytes_eq name (codes "lines") then Some (as_listing (Lines (form_in rows)))
     else if bytes_eq name (codes "status") then Some (as_listing (Status (form_in rows)))
     else if bytes_eq name (codes "report") then Some (as_listing (Report (form_in rows)))

@@ -137,5 +137,6 @@ pub fn run_dump<R: Source, W: Sink>(
         // No picture is asked for.
         GivenRun::Picture(_) => Err(LabFault::Common(CliFault::Memory)),
         GivenRun::Empty(..) => Err(LabFault::Common(CliFault::Memory)),
+        GivenRun::Lacking(..) => Err(LabFault::Common(CliFault::Memory)),
     }
 }

@@ -78,6 +78,7 @@ impl From<ShowFault> for LabFault {
             ShowFault::Common(fault) => LabFault::Common(fault),
             ShowFault::Schedule(bad) => LabFault::Schedule(bad),
             ShowFault::Empty(empty) => LabFault::Empty(empty),
+            ShowFault::NoProcess(name) => LabFault::NoProcess(name),
         }
     }
 }

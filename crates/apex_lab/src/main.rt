@@ -9,6 +9,7 @@ mod dumping;
 mod ends;
 mod faults;
 mod linting;
+mod names;
 mod numbers;
 mod program;
 mod progress;

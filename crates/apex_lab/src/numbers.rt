@@ -4,9 +4,10 @@ ghost use Rattle.apex_pace.specs.Laws.{IsPace};
 ghost use Rattle.apex_types.specs.Limits.{latest};
 ghost use Rattle.apex_types.specs.Numbers.{at_least, at_most, has_leading_zero, number_of};
 ghost use Rattle.apex_types.specs.declared.limits.TheConstants.{MOST_ENTRIES};
-ghost use Rattle.apex_lab.specs.Numbers.{jobs_in, number_in, pace_in, percent_in, room_in, time_of};
+ghost use Rattle.apex_lab.specs.Numbers.{jobs_in, number_in, pace_in, percent_in, room_in, tick_in, time_of};
 
 use apex_pace::{Pace, USUAL_TURNS};
+use apex_pictures::{LONGEST_TICK, TickLength};
 use apex_schedules::read_positive;
 use apex_types::{MOST_ENTRIES, MOST_TICKS, number_at_most};
 
@@ -116,6 +117,17 @@ pub fn jobs_given(text: Option<&str>) -> Option<u32>
     match number_at_most(text.as_bytes(), MOST_JOBS) {
         Some(jobs) if 1 <= jobs => Some(jobs),
         _ => None,
+    }
+}
+
+/// The length of a tick, in microseconds, that a text says, and the usual one if there is no text.
+/// None if the text is ill-formed.
+pub fn tick_given(text: Option<&str>) -> Option<TickLength>
+    ensures { result ≡ tick_in (option_map (λ given. given.now) text.entry) }
+{
+    match text {
+        Some(text) => TickLength::new(number_at_most(text.as_bytes(), LONGEST_TICK)?),
+        None => Some(TickLength::usual()),
     }
 }
 

@@ -6,8 +6,8 @@ ghost use Rattle.apex_history.specs.Counted.{inner_of, failures_of, CountsFailur
 ghost use Rattle.apex_pace.specs.Laws.{IsPace};
 ghost use Rattle.apex_answers.specs.Answers.{answer_end};
 ghost use Rattle.apex_answers.specs.Censuses.{census_end};
-ghost use Rattle.apex_answers.specs.Processes.{place_of};
 ghost use Rattle.apex_answers.specs.Worst.{worst_end};
+ghost use Rattle.apex_names.specs.Processes.{place_of};
 ghost use Rattle.apex_lab.specs.Ends.{end_in};
 ghost use Rattle.apex_lab.specs.Searches.{HasFacts, HasGreatest, HasShortest, IsAnswerFor, IsMissing, IsRefusalOf, IsSystemOf, SearchEnds, asked_name, asked_process, end_of_search, lab_end, lab_text};
 
@@ -15,12 +15,13 @@ use crate::ends::Ending;
 use crate::faults::LabFault;
 use crate::progress::Progress;
 use crate::questions::{Search, Sought};
-use apex_answers::{SearchAnswer, WorstAnswer, answer_of, print_census, process_of, worst_of};
+use apex_answers::{SearchAnswer, WorstAnswer, answer_of, print_census, worst_of};
 use apex_calls::Service;
 use apex_console::{CliFault, table_for};
 use apex_explore::Watch;
 use apex_history::{Counted, Sink, Source, read_all};
 use apex_jobs::Jobs;
+use apex_names::process_of;
 use apex_pace::Pace;
 use apex_search::{Census, End, Fact, Facts, Question, TableSystem, Worst};
 use apex_table::Table;

@@ -1,13 +1,14 @@
 //! What the program is asked to do.
 ghost use Rattle.std.specs.Prelude.{◌≡◌, IfOk, IfErr, Ok, Some, option_map, map, string_bytes};
 ghost use Rattle.apex_schedules.specs.Schedule.{positive_of};
-ghost use Rattle.apex_views.specs.Showings.{showing_said, source_said, view_said};
-ghost use Rattle.apex_lab.specs.Tasks.{IsInRange, IsUnasked, asked_by, asked_in_request, paced_source, showing_of, source_in, task_said, to_why, view_in, why_asked};
+ghost use Rattle.apex_views.specs.Showings.{chart_said, showing_said, source_said, view_said};
+ghost use Rattle.apex_lab.specs.Tasks.{IsInRange, IsUnasked, asked_by, asked_in_request, chart_in, paced_source, showing_of, source_in, task_said, to_why, view_in, why_asked};
 ghost use Rattle.apex_lab.specs.Words.{given_said, request_said, shown_said};
 
 use crate::faults::LabFault;
 use crate::linting::{Lint, lint_asked};
-use crate::numbers::{pace_given, read_time};
+use crate::names::names_given;
+use crate::numbers::{pace_given, read_time, tick_given};
 use crate::questions::{Search, search_asked};
 use crate::whys::Why;
 use crate::windows::{axis_given, window_given};
@@ -15,8 +16,8 @@ use crate::words::{Request, SourceWords, ViewWords, request_in};
 use apex_console::CliFault;
 use apex_objects::Form;
 use apex_schedules::read_positive;
-use apex_views::{Picture, RunSource, Showing, View, read_items};
-use std::alloc::Global;
+use apex_views::{Chart, Picture, RunSource, Showing, View, read_items};
+use std::alloc::{AllocError, Global};
 
 /// What the program is asked to do.
 #[derive(Drop)]
@@ -74,18 +75,51 @@ fn read_source(alloc: Global, source: SourceWords<'_>) -> Result<RunSource, LabF
     }
 }
 
-/// How a run is shown. None if a bound or the word of an axis is ill-formed.
-fn read_view(view: ViewWords<'_>) -> Option<View>
-    ensures { option_map view_said result ≡ view_in (shown_said view.entry) }
+/// How an SVG shows a run, by the texts of the bounds, of the axis and of the names of processes. None
+/// if one is ill-formed.
+fn read_chart(
+    alloc: Global,
+    first: Option<&str>,
+    last: Option<&str>,
+    axis: Option<&str>,
+    only: Option<&str>,
+) -> Result<Option<Chart>, AllocError>
+    ensures { IfOk result (λ found. option_map chart_said found ≡ chart_in
+        (option_map (λ text. text.now) first.entry) (option_map (λ text. text.now) last.entry)
+        (option_map (λ text. text.now) axis.entry) (option_map (λ text. text.now) only.entry)) }
+{
+    let Some(window) = window_given(first, last) else {
+        return Ok(None);
+    };
+    let Some(axis) = axis_given(axis) else {
+        return Ok(None);
+    };
+    let Some(only) = names_given(alloc, only)? else {
+        return Ok(None);
+    };
+    Ok(Some(Chart { window, axis, only }))
+}
+
+/// How a run is shown. None if a bound, the word of an axis, a name or a number is ill-formed.
+fn read_view(alloc: Global, view: ViewWords<'_>) -> Result<Option<View>, AllocError>
+    ensures { IfOk result
+        (λ found. option_map view_said found ≡ view_in (shown_said view.entry)) }
 {
     match view {
-        ViewWords::Svg { first, last, axis } => {
-            let window = window_given(first, last)?;
-            let axis = axis_given(axis)?;
-            Some(View::Picture(Picture::Svg(window, axis)))
-        }
-        ViewWords::Trace => Some(View::Picture(Picture::Trace)),
-        ViewWords::Listing(listing) => Some(View::Listing(listing)),
+        ViewWords::Svg {
+            first,
+            last,
+            axis,
+            only,
+        } => match read_chart(alloc, first, last, axis, only)? {
+            Some(chart) => Ok(Some(View::Picture(Picture::Svg(chart)))),
+            None => Ok(None),
+        },
+        ViewWords::Trace(tick) => match tick_given(tick) {
+            Some(tick) => Ok(Some(View::Picture(Picture::Trace(tick)))),
+            None => Ok(None),
+        },
+        ViewWords::Listing(listing) => Ok(Some(View::Listing(listing))),
     }
 }
 
@@ -101,7 +135,7 @@ fn read_showing(
     ensures err { IfErr result (IsUnasked (showing_of (source_in (given_said source.entry))
         (view_in (shown_said view.entry)))) }
 {
-    let Some(view) = read_view(view) else {
+    let Some(view) = read_view(alloc, view)? else {
         return Err(LabFault::Common(CliFault::Usage));
     };
     let source = read_source(alloc, source)?;

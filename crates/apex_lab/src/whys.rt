@@ -102,5 +102,6 @@ pub fn run_why<R: Source, W: Sink>(
         // No picture is asked for.
         GivenRun::Picture(_) => Err(LabFault::Common(CliFault::Memory)),
         GivenRun::Empty(..) => Err(LabFault::Common(CliFault::Memory)),
+        GivenRun::Lacking(..) => Err(LabFault::Common(CliFault::Memory)),
     }
 }

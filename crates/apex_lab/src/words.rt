@@ -3,7 +3,7 @@ ghost use Rattle.std.specs.Prelude.{◌≡◌, false, IfOk, IfErr, IsErrOf, Some
 ghost use Rattle.clap.specs.declared.builder.command.Command.TheViews.{out-Command as fields_of};
 ghost use Rattle.clap.specs.Words.{app_of, found_of, rows_of, subcommand_rows_of};
 ghost use Rattle.apex_console.specs.Faults.{IsUsageOrMemory};
-ghost use Rattle.apex_lab.specs.Words.{check_command, comments_in, dump_in, form_in, given_by, given_in, given_said, json_view_command, lab, lab_of_pictures, lab_of_searches, lab_of_views, lint_command, lint_in, lint_words_said, question_command, request_in, request_of, request_said, search_command, search_in, search_said, shown_said, showing_in, step_command, svg, svg_in, view_command, view_of, why_command, why_in};
+ghost use Rattle.apex_lab.specs.Words.{check_command, comments_in, dump_in, form_in, given_by, given_in, given_said, json_view_command, lab, lab_of_pictures, lab_of_searches, lab_of_views, lint_command, lint_in, lint_words_said, question_command, request_in, request_of, request_said, search_command, search_in, search_said, shown_said, showing_in, step_command, svg, svg_in, trace_command, trace_in, view_command, view_of, why_command, why_in};
 
 use apex_console::{CliFault, flag, has_flag, matches_of, option};
 use apex_objects::Form;
@@ -32,15 +32,16 @@ pub enum SourceWords<'a> {
 /// How a run is shown, by the words.
 #[derive(Clone, Copy)]
 pub enum ViewWords<'a> {
-    /// As SVG, with the texts of the first bound, of the last one and of the axis, if they are
-    /// given.
+    /// As SVG, with the texts of the first bound, of the last one, of the axis and of the names of
+    /// processes, if they are given.
     Svg {
         first: Option<&'a str>,
         last: Option<&'a str>,
         axis: Option<&'a str>,
+        only: Option<&'a str>,
     },
-    /// As a trace.
-    Trace,
+    /// As a trace, with the text of the length of a tick, if it is given.
+    Trace(Option<&'a str>),
     /// As a listing.
     Listing(Listing),
 }
@@ -113,7 +114,15 @@ fn svg_command<'a>(alloc: Global) -> Result<Command<'a>, AllocError>
 {
     let with_from = view_command(alloc, "svg")?.arg(option(alloc, "from"))?;
     let with_to = with_from.arg(option(alloc, "to"))?;
-    with_to.arg(option(alloc, "by"))
+    let with_by = with_to.arg(option(alloc, "by"))?;
+    with_by.arg(option(alloc, "only"))
+}
+
+fn trace_command<'a>(alloc: Global) -> Result<Command<'a>, AllocError>
+    ensures app { IfOk result (λ c. app_of c ≡ trace_command) }
+    ensures local { IfOk result (λ c. (fields_of c).has_globals ≡ false) }
+{
+    view_command(alloc, "trace")?.arg(option(alloc, "tick-us"))
 }
 
 /// The command of this name, with `--json` too.
@@ -131,7 +140,7 @@ fn picture_commands<'a>(alloc: Global) -> Result<Command<'a>, AllocError>
     let with_svg = Command::new(alloc, "apex_lab")
         .subcommand_required(true)
         .subcommand(svg_command(alloc)?)?;
-    with_svg.subcommand(view_command(alloc, "trace")?)
+    with_svg.subcommand(trace_command(alloc)?)
 }
 
 /// The program's command line, with its commands that show a run.
@@ -223,7 +232,8 @@ fn command<'a>(alloc: Global) -> Result<Command<'a>, AllocError>
 
 /// What the words ask for: `svg`, `trace`, `lines`, `status`, `report` or `schedule`, with
 /// `--schedule S`, with `--until T [--turns K] [--early E]`, or with neither; `svg` also with
-/// `[--from N] [--to M] [--by AXIS]`, and `lines`, `status` and `report` with `[--json]`; or `search`
+/// `[--from N] [--to M] [--by AXIS] [--only NAME,NAME]`, `trace` with `[--tick-us N]`, and `lines`, `status` and `report` with
+/// `[--json]`; or `search`
 /// with `[--for WORD] [--process P] [--service WORD] [--turns K] [--early E] [--states N] [--jobs N]`,
 /// or with `--worst P` in place of the first three; or `lint` with
 /// `[--json] [--name FILE] [--allow WORD,WORD]`; or `step` with `[--json]`;
@@ -291,7 +301,15 @@ fn svg_given<'a>(matches: &ArgMatches<'a>) -> ViewWords<'a>
         first: matches.get_str("from"),
         last: matches.get_str("to"),
         axis: matches.get_str("by"),
+        only: matches.get_str("only"),
     }
+}
+
+/// The trace for which a command's matches ask.
+fn trace_given<'a>(matches: &ArgMatches<'a>) -> ViewWords<'a>
+    ensures { shown_said result ≡ trace_in (rows_of (found_of matches.now)) }
+{
+    ViewWords::Trace(matches.get_str("tick-us"))
 }
 
 /// The form of the listing for which a command's matches ask.
@@ -311,7 +329,7 @@ fn view_given<'a>(name: &str, matches: &ArgMatches<'a>) -> Option<ViewWords<'a>>
 {
     match name {
         "svg" => Some(svg_given(matches)),
-        "trace" => Some(ViewWords::Trace),
+        "trace" => Some(trace_given(matches)),
         "lines" => Some(ViewWords::Listing(Listing::Lines(form_given(matches)))),
         "status" => Some(ViewWords::Listing(Listing::Status(form_given(matches)))),
         "report" => Some(ViewWords::Listing(Listing::Report(form_given(matches)))),

@@ -18,6 +18,7 @@ use Rattle.apex_pictures.proofs.Places.{found_at, place_of}
 -- the entry, the roster and the counts of column k, by the entries before the first
 record IsColumn (table : Table) (done entries : List Entry) (rosters : List Roster) (k : ℕ) (column : Column) : Type 0 where
   entry : slice_get entries k ≡ Some column.entry
+  begun : column.begun ≡ instant_after (done ++ take k entries)
   instant : column.instant ≡ instant_after (done ++ take (suc k) entries)
   roster : Roster
   after : slice_get rosters k ≡ Some roster
@@ -34,6 +35,7 @@ column_at table done before (entry ∷ entries) (roster ∷ rosters) zero column
     let same : column_of table done before entry roster ≡ column = cc in
     record {
       entry = ap (λ (c : Column). Some c.entry) same;
+      begun = ap (λ (c : Column). c.begun) (sym same) ∙ ap instant_after (sym (append-nil done));
       instant = ap (λ (c : Column). c.instant) (sym same);
       roster = roster;
       after = refl;
@@ -46,6 +48,7 @@ column_at table done before (entry ∷ entries) (roster ∷ rosters) (suc k) col
     let rest = column_at table (done ++ entry ∷ []) roster entries rosters k column is in
     record {
       entry = rest.entry;
+      begun = rest.begun ∙ ap instant_after (append_assoc done (entry ∷ []) (take k entries));
       instant = rest.instant ∙ ap instant_after (append_assoc done (entry ∷ []) (take (suc k) entries));
       roster = rest.roster;
       after = rest.after;
@@ -86,6 +89,7 @@ column_says table machine k column is =
     let roster = found.roster in
     record {
       entry = found.entry;
+      begun = found.begun;
       instant = rw (add-one k) found.instant;
       roster = roster;
       after = found.after;

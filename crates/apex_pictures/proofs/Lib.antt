@@ -11,3 +11,4 @@ pub mod Columns
 pub mod Counted
 pub mod SlicesWhole
 pub mod TracksShown
+pub mod Arrowed

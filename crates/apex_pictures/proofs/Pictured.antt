@@ -121,6 +121,7 @@ module _ (table : Table) (machine : Machine) (pictured : IsPictured table machin
       → new ≡ accept table machine event → last_or None new.history ≡ Some found
       → picture table new ≡ picture table machine
       ++ record {
+        begun = instant_after machine.history;
         instant = instant_after new.history;
         before = moment_in table machine;
         entry = found;
@@ -135,6 +136,7 @@ module _ (table : Table) (machine : Machine) (pictured : IsPictured table machin
       ap (picture table) whole ∙ column_longer entry roster
       ∙ ap (λ (m : Machine). picture table machine
       ++ record {
+        begun = instant_after machine.history;
         instant = instant_after m.history;
         before = moment_in table machine;
         entry = entry;
@@ -142,6 +144,7 @@ module _ (table : Table) (machine : Machine) (pictured : IsPictured table machin
       } ∷ []) (sym whole)
       ∙ ap (λ (e : Entry). picture table machine
       ++ record {
+        begun = instant_after machine.history;
         instant = instant_after new.history;
         before = moment_in table machine;
         entry = e;

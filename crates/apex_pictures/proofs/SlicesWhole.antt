@@ -2,7 +2,10 @@
 use Rattle.std.proofs.Common.{◌≡◌, ◌∙◌, ℕ, List, ◌++◌, ap, sym, append_assoc, inl, inr, codes, decimal, arith}
 use Rattle.std.proofs.lemmas.Fmt.{decimal_digit}
 use Rattle.apex_pictures.specs.Instants.{time_text}
-use Rattle.apex_pictures.specs.Stamps.{IsGroup, begin_back, begin_front, end_front, time_back}
+use Rattle.apex_json.specs.Strings.{json_text}
+use Rattle.apex_pictures.specs.Calls.{said_text}
+use Rattle.apex_pictures.specs.Stamps.{IsGroup, begin_back, begin_front, end_front}
+use Rattle.apex_pictures.specs.Times.{time_back}
 use Rattle.apex_pictures.specs.Trace.{begin_text, end_text}
 use Rattle.apex_pictures.specs.declared.trace.Spot.{Spot}
 
@@ -111,3 +114,25 @@ begin_whole spot now text first second after x y z =
     ∙ ap (λ l. text ++ (begin_front spot.group ++ (track ++ l))) rest
     ∙ ap (λ l. text ++ l) (append_assoc (b ++ group) tid (track ++ whole)
     ∙ append_assoc b group (tid ++ (track ++ whole)))
+
+-- the stamp's text of the beginning of a slice
+pub stamp_whole : (time now : ℕ) (first second third whole : List ℕ) → first ≡ time_back time
+    → second ≡ first ++ codes ",\"args\":{\"now\":" → third ≡ second ++ decimal now → whole ≡ third ++ codes "},\"name\":\""
+    → whole ≡ begin_back time now
+stamp_whole time now first second third whole w x y z =
+    z ∙ ap (λ l. l ++ codes "},\"name\":\"") (y ∙ ap (λ l. l ++ decimal now) (x ∙ ap (λ l. l ++ codes ",\"args\":{\"now\":") w))
+
+-- the arguments and the name of the slice of a call
+pub said_whole : (number : ℕ) (reply asked text first second third fourth fifth sixth whole : List ℕ)
+    → first ≡ text ++ codes ",\"args\":{\"entry\":" → second ≡ first ++ decimal number
+    → third ≡ second ++ codes ",\"reply\":\"" → fourth ≡ third ++ json_text reply
+    → fifth ≡ fourth ++ codes "\"},\"name\":\"" → sixth ≡ fifth ++ json_text asked → whole ≡ sixth ++ codes "\"}"
+    → whole ≡ text ++ said_text number reply asked
+unfolding said_text
+said_whole number reply asked text first second third fourth fifth sixth whole u v w x y z last =
+    let args = codes ",\"args\":{\"entry\":" in
+    let back = codes ",\"reply\":\"" in
+    let name = codes "\"},\"name\":\"" in
+    last ∙ ap (λ l. l ++ codes "\"}") (six_behind text args (decimal number) back (json_text reply) name (json_text asked)
+    first second third fourth fifth sixth u v w x y z)
+    ∙ append_assoc text (args ++ decimal number ++ back ++ json_text reply ++ name ++ json_text asked) (codes "\"}")

@@ -1,8 +1,8 @@
 -- What a trace shows of a moment gives the text of the moment.
-use Rattle.std.proofs.Common.{◌≡◌, ◌∙◌, ℕ, zero, suc, ◌<◌, true, List, [], ◌∷◌, ◌++◌, Option, Some, refl, sym, ap, append-nil, append_assoc, subst}
+use Rattle.std.proofs.Common.{◌≡◌, ◌∙◌, ℕ, zero, suc, ◌<◌, true, List, [], ◌∷◌, ◌++◌, Option, None, Some, refl, sym, ap, append-nil, append_assoc, subst}
 use Rattle.std.proofs.lemmas.Bool.{eq-eqb}
 use Rattle.std.proofs.lemmas.List.{length-map, map-append}
-use Rattle.std.specs.Prelude.{map, flat_map, length, slice_index_or, codes}
+use Rattle.std.specs.Prelude.{Bool, map, flat_map, length, slice_get, slice_index_or, codes, if◌then◌else◌}
 use Rattle.apex_machine.specs.text.Listing.{texts_of}
 use Rattle.apex_machine.specs.processes.Roster.{Roster, record_at}
 use Rattle.apex_machine.specs.processes.Running.{chosen, is_process, process_state}
@@ -12,15 +12,19 @@ use Rattle.apex_machine.specs.table.Table.{Table}
 use Rattle.apex_types.specs.declared.limits.TheConstants.{MOST_CORES}
 use Rattle.apex_types.specs.declared.modes.State.TheVariants as states
 use Rattle.apex_pictures.specs.Trace.{objects_text}
+use Rattle.apex_pictures.specs.Arrows.{arrow_id, goal_of, has_slice, head_at, head_of, head_to, roused, tail_at, tail_of, tail_to}
+use Rattle.apex_pictures.specs.Calls.{call_of}
 use Rattle.apex_pictures.specs.Counts.{Counts, HasCounts}
 use Rattle.apex_pictures.specs.Moments.{Shown, cell_of, moment_of, no_cell, none_shown, running_in}
 use Rattle.apex_pictures.specs.Places.{of_places}
-use Rattle.apex_pictures.specs.Terms.{Cell, Entry, State}
+use Rattle.apex_pictures.specs.Terms.{Caller, Cell, Entry, Notice, State}
 use Rattle.apex_pictures.specs.Trace as trace
 use Rattle.apex_pictures.specs.Tracks.{Fits, Follows, HasTracks, bare, bare_cell, bare_cells, cell_on, track_of}
+use Rattle.apex_pictures.specs.Svg.{notice_word}
+use Rattle.apex_pictures.specs.declared.calls.Span.{Span}
 use Rattle.apex_pictures.specs.declared.styles.Style.{Style}
 use Rattle.apex_pictures.specs.declared.styles.Style.TheVariants.{Svg, Trace}
-use Rattle.apex_pictures.specs.Beings.{being_in, being_of, same_being}
+use Rattle.apex_pictures.specs.Beings.{being_in, being_of, is_begun, same_being}
 use Rattle.apex_pictures.specs.declared.beings.Being.{Being}
 use Rattle.apex_pictures.specs.declared.beings.Being.TheVariants.{Dormant, Ready, Running, Waiting, Normal, Start, Time, Period, Semaphore, Buffer, Blackboard, EventFlag, Mutex}
 use Rattle.apex_pictures.proofs.Places.{place_of}
@@ -115,13 +119,81 @@ changes_same table time now before after =
     (texts_same (trace.process_at table time now (bare before) (bare after)) (trace.process_at table time now before after)
     (length table.processes) (process_same table time now before after))
 
+-- a process has a slice
+slice_same : (shown : Shown) (p : ℕ) → has_slice (bare shown) p ≡ has_slice shown p
+slice_same shown p = ap is_begun (being_bare shown.cells p)
+
+-- the arrows are the same at two moments at which the same processes have slices
+goal_same : (one other : Shown) → ((p : ℕ) → has_slice one p ≡ has_slice other p) → (roused : Option ℕ)
+    → goal_of one roused ≡ goal_of other roused
+goal_same one other same None = refl
+goal_same one other same (Some p) = ap (λ (yes : Bool). if yes then Some p else None) (same p)
+
+tail_same : (caller : Caller) (time : ℕ) (one other : Shown) → ((p : ℕ) → has_slice one p ≡ has_slice other p)
+    → (id : ℕ) (notice : Option Notice) → tail_of caller time one id notice ≡ tail_of caller time other id notice
+tail_same caller time one other same id None = refl
+tail_same caller time one other same id (Some notice) =
+    ap (tail_to caller time id (notice_word notice)) (goal_same one other same (roused notice))
+
+head_same : (time : ℕ) (one other : Shown) → ((p : ℕ) → has_slice one p ≡ has_slice other p)
+    → (id : ℕ) (notice : Option Notice) → head_of time one id notice ≡ head_of time other id notice
+head_same time one other same id None = refl
+head_same time one other same id (Some notice) =
+    ap (head_to time id (notice_word notice)) (goal_same one other same (roused notice))
+
+-- the slice of an entry and the beginnings of its arrows
+pub call_same : (table : Table) (span : Span) (entry : Entry) (one other : Shown)
+    → ((p : ℕ) → has_slice one p ≡ has_slice other p)
+    → trace.call_text table span entry one ≡ trace.call_text table span entry other
+call_same table span entry one other same =
+    let caller = entry.process in
+    let number = entry.number in
+    let notices = entry.notices in
+    ap (λ l. call_of table span entry ++ l)
+    (texts_same (tail_at caller span.begin one number notices) (tail_at caller span.begin other number notices) (length notices)
+    (λ i. tail_same caller span.begin one other same (arrow_id number i) (slice_get notices i)))
+
+-- the marks of an entry's notices and the ends of its arrows
+pub notices_same : (time : ℕ) (entry : Entry) (one other : Shown) → ((p : ℕ) → has_slice one p ≡ has_slice other p)
+    → trace.notices_text time entry one ≡ trace.notices_text time entry other
+notices_same time entry one other same =
+    let number = entry.number in
+    let notices = entry.notices in
+    ap (λ l. flat_map (trace.marked_text time entry.now) notices ++ l)
+    (texts_same (head_at time one number notices) (head_at time other number notices) (length notices)
+    (λ i. head_same time one other same (arrow_id number i) (slice_get notices i)))
+
+-- the parts of a column, one behind the other
+pub column_whole : (table : Table) (span : Span) (before : Shown) (entry : Entry) (after : Shown)
+    (text one two three four five whole : List ℕ)
+    → one ≡ trace.call_text table span entry after
+    → two ≡ one ++ texts_of (trace.core_at table span.end entry.now before after) table.cores
+    → three ≡ two ++ texts_of (trace.process_at table span.end entry.now before after) (length table.processes)
+    → four ≡ three ++ objects_text table span.end entry.now before.counts after.counts
+    → five ≡ four ++ trace.notices_text span.end entry after
+    → whole ≡ text ++ five
+    → whole ≡ text ++ trace.column_text table span before entry after
+column_whole table span before entry after text one two three four five whole u v w x y z =
+    let call = trace.call_text table span entry after in
+    let cores = texts_of (trace.core_at table span.end entry.now before after) table.cores in
+    let processes = texts_of (trace.process_at table span.end entry.now before after) (length table.processes) in
+    let objects = objects_text table span.end entry.now before.counts after.counts in
+    let notices = trace.notices_text span.end entry after in
+    z ∙ ap (λ l. text ++ l) (y ∙ ap (λ l. l ++ notices) (x ∙ ap (λ l. l ++ objects) (w ∙ ap (λ l. l ++ processes)
+    (v ∙ ap (λ l. l ++ cores) u) ∙ append_assoc call cores processes)))
+
 -- the text of a column
-pub column_same : (table : Table) (time : ℕ) (before : Shown) (entry : Entry) (after : Shown)
-    → trace.column_text table time (bare before) entry (bare after) ≡ trace.column_text table time before entry after
-column_same table time before entry after =
-    ap (λ l. l ++ objects_text table time entry.now before.counts after.counts
-    ++ flat_map (trace.marked_text time entry.now) entry.notices)
-    (changes_same table time entry.now before after)
+pub column_same : (table : Table) (span : Span) (before : Shown) (entry : Entry) (after : Shown)
+    → trace.column_text table span (bare before) entry (bare after) ≡ trace.column_text table span before entry after
+column_same table span before entry after =
+    let objects = objects_text table span.end entry.now before.counts after.counts in
+    let notices = trace.notices_text span.end entry (bare after) in
+    ap (λ l. l ++ trace.changes_text table span.end entry.now (bare before) (bare after) ++ objects ++ notices)
+    (call_same table span entry (bare after) after (slice_same after))
+    ∙ ap (λ l. trace.call_text table span entry after ++ l ++ objects ++ notices)
+    (changes_same table span.end entry.now before after)
+    ∙ ap (λ l. trace.call_text table span entry after ++ trace.changes_text table span.end entry.now before after ++ objects ++ l)
+    (notices_same span.end entry (bare after) after (slice_same after))
 
 -- what comes after the columns
 pub foot_same : (table : Table) (time now : ℕ) (last : Shown)
@@ -132,33 +204,21 @@ foot_same table time now last =
 -- the tracks of the moment follow it
 pub follows : (style : Style) (tracks shown : Shown) → tracks ≡ bare shown → Follows style tracks shown
 follows (Svg frame) tracks shown is = tt
-follows Trace tracks shown is = is
+follows (Trace tick) tracks shown is = is
 
 -- there are as many tracks that follow a moment as it has cells
 pub follow_many : (style : Style) (tracks shown : Shown) (n : ℕ) → Follows style tracks shown → length shown.cells ≡ n
     → HasTracks style tracks n
 follow_many (Svg frame) tracks shown n follows many = tt
-follow_many Trace tracks shown n follows many =
+follow_many (Trace tick) tracks shown n follows many =
     ap (λ (s : Shown). length s.cells) follows ∙ length-map shown.cells bare_cell ∙ many
 
 -- tracks that follow a moment have the moment's counts and cores
 pub follow_fits : (style : Style) (tracks shown : Shown) (table : Table) → Follows style tracks shown → HasCounts shown.counts table
     → length shown.running ≡ MOST_CORES → Fits style tracks table
 follow_fits (Svg frame) tracks shown table follows counts cores = tt
-follow_fits Trace tracks shown table follows counts cores =
+follow_fits (Trace tick) tracks shown table follows counts cores =
     (subst (λ (s : Shown). HasCounts s.counts table) (sym follows) counts, ap (λ (s : Shown). length s.running) follows ∙ cores)
-
--- the changes and the marks of a column, one behind the other
-pub column_whole : (table : Table) (time : ℕ) (before : Shown) (entry : Entry) (after : Shown) (text one whole : List ℕ)
-    → one ≡ text ++ (trace.changes_text table time entry.now before after
-    ++ objects_text table time entry.now before.counts after.counts)
-    → whole ≡ one ++ flat_map (trace.marked_text time entry.now) entry.notices
-    → whole ≡ text ++ trace.column_text table time before entry after
-column_whole table time before entry after text one whole changes marks =
-    let changed = trace.changes_text table time entry.now before after
-    ++ objects_text table time entry.now before.counts after.counts in
-    let marked = flat_map (trace.marked_text time entry.now) entry.notices in
-    marks ∙ ap (λ l. l ++ marked) changes ∙ append_assoc text changed marked
 
 -- the track of a process that its core runs
 pub track_running : (roster : Roster) (core p : ℕ) (running : Option ℕ) → running ≡ chosen roster core

@@ -6,6 +6,7 @@ use Rattle.apex_pictures.specs.Terms.{Entry}
 use Rattle.apex_pictures.specs.declared.axes.Axis.{Axis}
 use Rattle.apex_pictures.specs.declared.axes.Axis.TheVariants.{Entries, Time}
 use Rattle.apex_pictures.specs.declared.axes.TheConstants.{COLUMN, MOST_ROOM, TICK}
+use Rattle.apex_pictures.specs.declared.excerpts.Extent.{Extent}
 
 -- the time of the entry of this number in a history, in ticks
 abbrev pub time_of : List Entry → ℕ → ℕ
@@ -42,7 +43,6 @@ places_of axis history first last =
 abbrev pub behind_of : Axis → List Entry → ℕ → ℕ → ℕ
 behind_of axis history first last = place_of axis history first last last + COLUMN
 
--- the number of the last entry that has a column, of those from the first to the last, in a history of
--- `entries` entries
-abbrev pub last_column : ℕ → ℕ → ℕ → ℕ
-last_column first last entries = min entries (last_drawn first last)
+-- the number of the last entry that has a column, of an extent in a history of `entries` entries
+abbrev pub last_column : Extent → ℕ → ℕ
+last_column extent entries = min entries (last_drawn extent)

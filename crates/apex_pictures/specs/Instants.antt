@@ -1,9 +1,15 @@
--- The instants of a trace. A tick is 1,000 units of the trace's axis. The moments of one time follow
--- one another from there: the first hundred a unit apart, the others a hundredth of a unit, so that
--- all moments of a history have room in the tick.
-use Rattle.std.specs.Prelude.{ℕ, ◌+◌, ◌*◌, ◌/◌, ◌%◌, List, [], ◌∷◌, ◌++◌, ◌==◌, if◌then◌else◌, codes, decimal, nat_lt}
+-- The instants of a trace. The moments of one time follow one another from the beginning of the tick: the first
+-- hundred a thousandth of the tick apart, the others a hundredth of that, so that all moments of a history have room
+-- in the tick. The axis has microseconds, and the length of a tick is given in them; times are nanoseconds.
+use Rattle.std.specs.Prelude.{ℕ, ◌+◌, ◌*◌, ◌-◌, ◌/◌, ◌%◌, List, [], ◌∷◌, ◌++◌, ◌==◌, Option, if◌then◌else◌, codes, decimal, nat_lt}
+use Rattle.apex_types.specs.Numbers.{at_least, at_most}
 use Rattle.apex_pictures.specs.Terms.{Entry}
 use Rattle.apex_pictures.specs.declared.instants.Instant.{Instant}
+use Rattle.apex_pictures.specs.declared.instants.TheConstants.{LEAST_TICK, LONGEST_TICK}
+
+-- the length of a tick of this many microseconds, if a tick may have it
+abbrev pub tick_length : Option ℕ → Option ℕ
+tick_length microseconds = at_least LEAST_TICK (at_most LONGEST_TICK microseconds)
 
 -- the instant of the moment before any entry
 abbrev pub opening_instant : Instant
@@ -24,19 +30,23 @@ instant_from instant (entry ∷ entries) = instant_from (next_instant instant en
 abbrev pub instant_after : List Entry → Instant
 instant_after done = instant_from opening_instant done
 
--- where a place is in its tick, in hundredths of a unit
-abbrev pub within_tick : ℕ → ℕ
-within_tick place = if nat_lt place 100 then 100 * place else place + 9900
+-- where a place is in a tick of this length
+abbrev pub within_tick : ℕ → ℕ → ℕ
+within_tick tick place =
+    if nat_lt place 100 then tick * place else tick * 100 + tick * (place - 100) / 100
 
--- an instant in hundredths of a unit
-abbrev pub hundredths : Instant → ℕ
-hundredths instant = 100000 * instant.now + within_tick instant.place
+-- the time of an instant, for ticks of this length
+abbrev pub time_at : ℕ → Instant → ℕ
+time_at tick instant = 1000 * tick * instant.now + within_tick tick instant.place
 
--- the hundredths beyond the units, if there are any
+-- the thousandths beyond the units, if there are any, without zeros at the end
 abbrev pub fraction_text : ℕ → List ℕ
 fraction_text rest =
-    if rest == 0 then [] else codes "." ++ decimal (rest / 10) ++ decimal (rest % 10)
+    if rest == 0 then []
+    else if rest % 100 == 0 then codes "." ++ decimal (rest / 100)
+    else if rest % 10 == 0 then codes "." ++ decimal (rest / 100) ++ decimal (rest / 10 % 10)
+    else codes "." ++ decimal (rest / 100) ++ decimal (rest / 10 % 10) ++ decimal (rest % 10)
 
--- hundredths of a unit, in units
+-- nanoseconds, in microseconds
 unfoldable pub time_text : ℕ → List ℕ
-time_text time = decimal (time / 100) ++ fraction_text (time % 100)
+time_text time = decimal (time / 1000) ++ fraction_text (time % 1000)

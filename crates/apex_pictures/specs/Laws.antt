@@ -8,7 +8,8 @@ use Rattle.apex_machine.specs.processes.Running.{chosen, process_state}
 use Rattle.apex_machine.specs.table.Table.{IsLawful, Table}
 use Rattle.apex_pictures.specs.Axes.{place_of, time_of}
 use Rattle.apex_pictures.specs.Counts.{Counts, content_of, displayed_on, raised_of, value_of}
-use Rattle.apex_pictures.specs.Instants.{hundredths, instant_after}
+use Rattle.apex_pictures.specs.Instants.{instant_after, time_at}
+use Rattle.apex_pictures.specs.declared.instants.TheConstants.{LEAST_TICK}
 use Rattle.apex_pictures.specs.Moments.{Column, no_cell, picture}
 use Rattle.apex_pictures.specs.Terms.{Cell, Entry, Event}
 use Rattle.apex_pictures.specs.declared.axes.Axis.{Axis}
@@ -33,9 +34,10 @@ pub record CountsAll (table : Table) (done : List Entry) (counts : Counts) : Typ
 
 -- Column k has entry k of the machine's history, and what holds in the roster after that entry: the state of
 -- each process, what it waits for and owns, the process that each core runs, and the owner of each mutex. It has
--- the counts of the objects before the entry and after it, and the instant after it.
+-- the counts of the objects before the entry and after it, and the instants of both moments.
 pub record Says (table : Table) (machine : Machine) (k : ℕ) (column : Column) : Type 0 where
   pub entry : slice_get machine.history k ≡ Some column.entry
+  pub begun : column.begun ≡ instant_after (take k machine.history)
   pub instant : column.instant ≡ instant_after (take (k + 1) machine.history)
   pub roster : Roster
   pub after : slice_get machine.past k ≡ Some roster
@@ -60,20 +62,23 @@ pub record ArePictures : Type 0 where
   pub says : (table : Table) (machine : Machine) (k : ℕ) (column : Column)
       → slice_get (picture table machine) k ≡ Some column → Says table machine k column
 
--- On the axis of a trace the moment after an event comes after the one before it. Each moment has the
--- time of its roster, and is in that tick, which begins at 1,000 units a tick.
+-- On the axis of a trace with ticks of any length that it may have, the moment after an event comes after the one
+-- before it. Each moment has the time of its roster, and is in that tick, which begins at 1,000 nanoseconds for each
+-- microsecond of the ticks before it.
 pub record AreInOrder : Type 0 where
-  pub rises : (table : Table) → IsLawful table → (events : List Event) (event : Event)
+  pub rises : (table : Table) → IsLawful table → (tick : ℕ) → LEAST_TICK ≤ tick
+      → (events : List Event) (event : Event)
       → length (run table (opening table) events).history < table.limit
-      → hundredths (instant_after (run table (opening table) events).history)
-      < hundredths (instant_after
+      → time_at tick (instant_after (run table (opening table) events).history)
+      < time_at tick (instant_after
       (accept table (run table (opening table) events) event).history)
   pub time : (table : Table) → IsLawful table → (events : List Event)
       → (instant_after (run table (opening table) events).history).now
       ≡ (run table (opening table) events).roster.now
-  pub ticks : (table : Table) → IsLawful table → (events : List Event)
-      → hundredths (instant_after (run table (opening table) events).history)
-      < 100000 * ((instant_after (run table (opening table) events).history).now + 1)
+  pub ticks : (table : Table) → IsLawful table → (tick : ℕ) → LEAST_TICK ≤ tick
+      → (events : List Event)
+      → time_at tick (instant_after (run table (opening table) events).history)
+      < 1000 * tick * ((instant_after (run table (opening table) events).history).now + 1)
 
 -- the history of a run
 abbrev pub history_of : Table → List Event → List Entry

@@ -59,8 +59,9 @@ abbrev pub moment_in : Table → Machine → Shown
 moment_in table machine =
     moment_of machine.roster (counts_after table machine.roster machine.history)
 
--- a column of a picture: an entry, the moments before and after it, and the instant of the latter
+-- a column of a picture: an entry, the moments before and after it, and their instants
 pub record Column : Type 0 where
+  pub begun : Instant
   pub instant : Instant
   pub before : Shown
   pub entry : Entry
@@ -69,6 +70,7 @@ pub record Column : Type 0 where
 -- the column of an entry, by the entries and the roster before it, and the roster after it
 abbrev pub column_of : Table → List Entry → Roster → Entry → Roster → Column
 column_of table done before entry after = record {
+  begun = instant_after done;
   instant = instant_after (done ++ entry ∷ []);
   before = moment_of before (counts_after table before done);
   entry = entry;

@@ -8,10 +8,6 @@ use Rattle.apex_pictures.specs.declared.trace.Spot.{Spot}
 abbrev pub end_front : ℕ → List ℕ
 end_front group = codes ",\n{\"ph\":\"E\",\"pid\":" ++ decimal group ++ codes ",\"tid\":"
 
--- the time behind the number of a track
-abbrev pub time_back : ℕ → List ℕ
-time_back time = codes ",\"ts\":" ++ time_text time
-
 -- the beginning of a slice, up to the number of its track
 abbrev pub begin_front : ℕ → List ℕ
 begin_front group = codes ",\n{\"ph\":\"B\",\"pid\":" ++ decimal group ++ codes ",\"tid\":"
@@ -22,15 +18,15 @@ begin_back time now =
     codes ",\"ts\":" ++ time_text time ++ codes ",\"args\":{\"now\":" ++ decimal now
     ++ codes "},\"name\":\""
 
--- the texts of a stamp are those of this time
+-- the stamp is of this time
 abbrev pub IsStamp : Stamp → ℕ → Type 0
 IsStamp stamp time =
-    (stamp.time.items ≡ time_back time) × (stamp.begin.items ≡ begin_back time stamp.ticks)
+    (stamp.time ≡ time) × (stamp.begin.items ≡ begin_back time stamp.ticks)
 
 -- the group of the cores, of the processes or of the objects
 abbrev pub IsGroup : ℕ → Type 0
 IsGroup group = (group ≡ 1) ⊎ ((group ≡ 2) ⊎ (group ≡ 3))
 
--- the texts of a stamp are those of this time, on a track of a core, of a process or of an object
+-- the stamp is of this time, on a track of a core, of a process or of an object
 abbrev pub Stamps : Stamp → Spot → Type 0
 Stamps stamp spot = IsGroup spot.group × IsStamp stamp spot.time

@@ -1,6 +1,6 @@
 -- A picture as SVG. The places of rows and columns are the frame's; their contents are the
 -- columns'.
-use Rattle.std.specs.Prelude.{ℕ, ◌+◌, ◌-◌, ◌*◌, Bool, false, List, [], ◌∷◌, ◌++◌, ◌==◌, ◌&&◌, ◌||◌, nat_le, nat_lt, length, Option, None, Some, codes, decimal, flat_map, slice_index_or, take, if◌then◌else◌}
+use Rattle.std.specs.Prelude.{ℕ, ◌+◌, ◌-◌, ◌*◌, Bool, false, true, List, [], ◌∷◌, ◌++◌, ◌==◌, ◌&&◌, ◌||◌, nat_le, nat_lt, length, Option, None, Some, codes, decimal, flat_map, slice_index_or, take, if◌then◌else◌}
 use Rattle.apex_machine.specs.text.Texts.{id_text, process_name}
 use Rattle.apex_calls.specs.Lines.{asked_text, line_of, reply_text}
 use Rattle.apex_machine.specs.text.Listing.{texts_of}
@@ -12,11 +12,13 @@ use Rattle.apex_machine.specs.declared.holdings.Holding.{Holding}
 use Rattle.apex_types.specs.declared.entries.Notice.TheVariants.{Woken, Released, Missed}
 use Rattle.apex_types.specs.declared.entries.Reply.TheVariants.{Advanced}
 use Rattle.apex_pictures.specs.Moments.{Shown, no_cell}
+use Rattle.apex_pictures.specs.Rows.{selection_of}
 use Rattle.apex_pictures.specs.Terms.{Caller, Cell, Entry, Notice, Reply, Wait}
 use Rattle.apex_pictures.specs.Texts.{xml_text}
 use Rattle.apex_pictures.specs.declared.excerpts.Excerpt.{Excerpt}
 use Rattle.apex_pictures.specs.declared.frames.Frame.{Frame}
 use Rattle.apex_pictures.specs.declared.marks.Mark.{Mark}
+use Rattle.apex_pictures.specs.declared.rows.Selection.{Selection}
 use Rattle.apex_pictures.specs.declared.svg.TheConstants.{MOST_CALL}
 
 -- texts one behind the other
@@ -25,7 +27,7 @@ texts parts = flat_map (λ part. part) parts
 
 -- the place of the row of a process
 abbrev pub row_of : Frame → ℕ → ℕ
-row_of frame p = slice_index_or frame.rows.items p 0
+row_of frame p = slice_index_or frame.rows.places.items p 0
 
 -- the place of the column behind n others, from the first column
 abbrev pub column_at : Frame → ℕ → ℕ
@@ -42,7 +44,11 @@ column_width frame number =
 
 -- the place of the heading of a core
 abbrev pub heading_of : Frame → ℕ → ℕ
-heading_of frame core = slice_index_or frame.headings.items core 0
+heading_of frame core = slice_index_or frame.rows.headings.items core 0
+
+-- process p has a row
+abbrev pub has_row : Frame → ℕ → Bool
+has_row frame p = slice_index_or frame.rows.chosen.items p false
 
 -- the entry of this number is drawn
 abbrev pub shows : Frame → ℕ → Bool
@@ -67,6 +73,10 @@ label_text table frame p = texts (
     codes "<text x='20' y='" ∷ decimal (row_of frame p + 13) ∷ codes "'>"
     ∷ id_text p ∷ codes " " ∷ xml_text (process_name table p) ∷ codes "</text>\n" ∷ [])
 
+-- the label of a process's row, if it has one
+abbrev pub label_at : Table → Frame → ℕ → List ℕ
+label_at table frame p = if has_row frame p then label_text table frame p else []
+
 -- time goes on with a reply
 abbrev pub goes_on : Reply → Bool
 goes_on (Advanced asked went) = nat_lt 0 went
@@ -79,7 +89,7 @@ is_timed frame entry = goes_on entry.reply || entry.number == frame.first
 -- the line and the text of an instant
 unfoldable pub instant_text : Frame → ℕ → List ℕ
 instant_text frame now = texts (
-    codes "<line class='time' y1='" ∷ decimal frame.top ∷ codes "' y2='"
+    codes "<line class='time' y1='" ∷ decimal frame.rows.top ∷ codes "' y2='"
     ∷ decimal (frame.bottom + 14)
     ∷ codes "'/><text class='now' transform='translate(4," ∷ decimal (frame.bottom + 18)
     ∷ codes ") rotate(60)'>t=" ∷ decimal now ∷ codes "</text>\n" ∷ [])
@@ -119,7 +129,7 @@ said_text table entry = cut_text (said_line table entry)
 -- the head of the text above a column, with its tooltip
 unfoldable pub title_text : Frame → List ℕ → List ℕ
 title_text frame line = texts (
-    codes "<text class='call' transform='translate(19," ∷ decimal frame.top
+    codes "<text class='call' transform='translate(19," ∷ decimal frame.rows.top
     ∷ codes ") rotate(-60)'><title>" ∷ xml_text line ∷ codes "</title>" ∷ [])
 
 -- the end of a call, of a cell and of a column
@@ -136,6 +146,17 @@ column_end = codes "</g>\n"
 abbrev pub call_text : Table → Frame → Entry → List ℕ
 call_text table frame entry =
     title_text frame (line_of table entry) ++ said_text table entry ++ call_end
+
+-- the caller of an entry is no process without a row
+abbrev pub is_heard : Frame → Caller → Bool
+is_heard frame (Process p) = has_row frame p
+is_heard frame Init = true
+is_heard frame Nobody = true
+
+-- the call and the reply above a column, unless a process calls that has no row
+abbrev pub call_at : Table → Frame → Entry → List ℕ
+call_at table frame entry =
+    if is_heard frame entry.process then call_text table frame entry else []
 
 -- the wait of a process
 abbrev pub waits_part : Option Wait → List ℕ
@@ -174,10 +195,11 @@ cell_text table frame width p cell =
     cell_part table frame width p cell ++ waits_part cell.wait ++ cell_end
     ++ owns_part frame width p cell.owned
 
--- the cell of process p of a moment
+-- the cell of process p of a moment, if the process has a row
 abbrev pub cell_at : Table → Frame → ℕ → Shown → ℕ → List ℕ
 cell_at table frame width shown p =
-    cell_text table frame width p (slice_index_or shown.cells p no_cell)
+    if has_row frame p then cell_text table frame width p (slice_index_or shown.cells p no_cell)
+    else []
 
 -- a ring in the row of a process
 unfoldable pub circle_text : Frame → List ℕ → ℕ → List ℕ
@@ -186,9 +208,9 @@ circle_text frame line p = texts (
     ∷ decimal (row_of frame p + 8) ∷ codes "' r='4'><title>" ∷ xml_text line
     ∷ codes "</title></circle>\n" ∷ [])
 
--- the ring in the row of the caller, if a process calls
+-- the ring in the row of the caller, if a process calls that has one
 abbrev pub ring_in : Frame → List ℕ → Caller → List ℕ
-ring_in frame line (Process p) = circle_text frame line p
+ring_in frame line (Process p) = if has_row frame p then circle_text frame line p else []
 ring_in frame line Init = []
 ring_in frame line Nobody = []
 
@@ -227,9 +249,10 @@ dash_text frame caller notice = texts (
     ∷ decimal (row_of frame caller + 8) ∷ codes "' y2='"
     ∷ decimal (row_of frame (notice_process notice) + 4) ∷ codes "'/>\n" ∷ [])
 
--- the line from the ring of the caller, if a process calls, to the wedge of a notice
+-- the line from the ring of the caller, if a process calls, to the mark of a notice, if both have a row
 abbrev pub dash_to : Frame → Caller → Notice → List ℕ
-dash_to frame (Process p) notice = dash_text frame p notice
+dash_to frame (Process p) notice =
+    if has_row frame p && has_row frame (notice_process notice) then dash_text frame p notice else []
 dash_to frame Init notice = []
 dash_to frame Nobody notice = []
 
@@ -242,15 +265,20 @@ wedge_text frame notice = texts (
     ∷ outline_text notice ∷ codes "'><title>" ∷ notice_word notice ∷ codes " " ∷ id_text (notice_process notice) ∷ codes "</title></path>\n"
     ∷ [])
 
+-- the mark of a notice, if its process has a row
+abbrev pub wedge_at : Frame → Notice → List ℕ
+wedge_at frame notice =
+    if has_row frame (notice_process notice) then wedge_text frame notice else []
+
 -- the marks of a column: the instant, the call, a cell for each process up to the next column, the lines
 -- from the caller's ring to the marks of the notices, the ring, and the marks of the notices
 abbrev pub marks_text : Table → Frame → Entry → Shown → List ℕ
 marks_text table frame entry shown =
-    time_text frame entry ++ call_text table frame entry
+    time_text frame entry ++ call_at table frame entry
     ++ texts_of (cell_at table frame (column_width frame entry.number) shown)
     (length table.processes)
     ++ flat_map (dash_to frame entry.process) entry.notices
-    ++ ring_text table frame entry ++ flat_map (wedge_text frame) entry.notices
+    ++ ring_text table frame entry ++ flat_map (wedge_at frame) entry.notices
 
 -- the head of the column of the entry of this number
 unfoldable pub start_text : Frame → ℕ → List ℕ
@@ -277,10 +305,10 @@ unfoldable pub mark_text : Frame → Mark → List ℕ
 mark_text frame mark = texts (
     codes "<g class='departure' transform='translate("
     ∷ decimal (behind frame)
-    ∷ codes ",0)'>\n<line class='departs' y1='" ∷ decimal frame.top ∷ codes "' y2='"
+    ∷ codes ",0)'>\n<line class='departs' y1='" ∷ decimal frame.rows.top ∷ codes "' y2='"
     ∷ decimal (frame.bottom + 14) ∷ codes "'/><text class='departs' x='6' y='"
-    ∷ decimal (frame.top + 13) ∷ codes "'>expected: " ∷ xml_text mark.expected.items
-    ∷ codes "</text><text class='departs' x='6' y='" ∷ decimal (frame.top + 28)
+    ∷ decimal (frame.rows.top + 13) ∷ codes "'>expected: " ∷ xml_text mark.expected.items
+    ∷ codes "</text><text class='departs' x='6' y='" ∷ decimal (frame.rows.top + 28)
     ∷ codes "'>given: " ∷ xml_text mark.given.items ∷ codes "</text>\n</g>\n" ∷ [])
 
 -- the mark of a departure, if there is one
@@ -310,11 +338,23 @@ abbrev pub note_text : Option Excerpt → List ℕ
 note_text None = []
 note_text (Some excerpt) = excerpt_text excerpt
 
+-- how many processes have a row
+unfoldable pub selection_text : Selection → List ℕ
+selection_text selection = texts (
+    codes "<text x='20' y='21'>" ∷ decimal selection.shown ∷ codes " of "
+    ∷ decimal selection.all ∷ codes " processes</text>" ∷ [])
+
+-- the note of how many processes have a row, unless all have one
+abbrev pub selection_part : Option Selection → List ℕ
+selection_part None = []
+selection_part (Some selection) = selection_text selection
+
 -- what comes after the columns: the mark of a departure, and the group of the labels, which a script
--- keeps in sight. It has a heading for each core, a label for each process, and the key, with the note
+-- keeps in sight. It has a heading for each core, a label for each row, and the key, with the notes
 -- behind it.
 abbrev pub foot_text : Table → Frame → List ℕ
 foot_text table frame =
     mark_part frame frame.mark ++ white_text frame ++ texts_of (heading_text frame) table.cores
-    ++ texts_of (label_text table frame) (length table.processes)
-    ++ key_text frame ++ note_text frame.excerpt ++ frame.end.now
+    ++ texts_of (label_at table frame) (length table.processes)
+    ++ key_text frame ++ note_text frame.excerpt
+    ++ selection_part (selection_of frame.rows.chosen.items) ++ frame.end.now

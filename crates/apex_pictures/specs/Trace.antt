@@ -1,5 +1,6 @@
 -- A picture as a trace in the Trace Event Format, which is JSON. The groups of tracks are the cores (1), the
--- processes (2) and the objects (3), of which the mutexes have tracks and the others counters. A tick is 1,000 units of the axis; times are hundredths of a unit, and the
+-- processes (2), the objects (3), of which the mutexes have tracks and the others counters, and the partition
+-- (4), with tracks of the init list and of the ticks. The axis has microseconds, and times are nanoseconds; the
 -- partition's time is an argument too.
 use Rattle.std.specs.Prelude.{ℕ, ◌+◌, Bool, true, false, List, [], ◌∷◌, ◌++◌, Option, None, Some, is_some, codes, decimal, flat_map, length, slice_index_or, if◌then◌else◌, ◌==◌}
 use Rattle.apex_machine.specs.text.Texts.{id_text, mutex_name, process_name}
@@ -7,6 +8,8 @@ use Rattle.apex_calls.specs.Lines.{code_text, deadline_text}
 use Rattle.apex_machine.specs.text.Listing.{texts_of}
 use Rattle.apex_machine.specs.table.Table.{Table}
 use Rattle.apex_types.specs.declared.entries.Notice.TheVariants.{Woken, Released, Missed}
+use Rattle.apex_pictures.specs.Arrows.{heads_of, tails_of}
+use Rattle.apex_pictures.specs.Calls.{call_of}
 use Rattle.apex_pictures.specs.Counters.{counters_text}
 use Rattle.apex_pictures.specs.Counts.{Counts, no_counts}
 use Rattle.apex_pictures.specs.Instants.{time_text}
@@ -17,6 +20,7 @@ use Rattle.apex_pictures.specs.Terms.{Cell, Entry, Notice}
 use Rattle.apex_pictures.specs.Beings.{being_in, being_name, is_begun, same_being}
 use Rattle.apex_pictures.specs.declared.beings.Being.{Being}
 use Rattle.apex_json.specs.Strings.{json_text}
+use Rattle.apex_pictures.specs.declared.calls.Span.{Span}
 use Rattle.apex_pictures.specs.declared.trace.Spot.{Spot}
 
 -- the name of a core's track, and its place among those of the cores
@@ -43,10 +47,11 @@ mutex_name_text table m = texts (
     ∷ codes "\"}},\n{\"ph\":\"M\",\"pid\":3,\"tid\":" ∷ id_text m
     ∷ codes ",\"name\":\"thread_sort_index\",\"args\":{\"sort_index\":" ∷ id_text m ∷ codes "}}" ∷ [])
 
--- the beginning of the file: the unit of the ruler, the program and the names of the groups
+-- the beginning of the file: the unit of the ruler, the program, the names of the groups, and the tracks of the
+-- init list and of the ticks
 unfoldable pub opening_text : List ℕ
 opening_text =
-    codes "{\"displayTimeUnit\":\"ms\",\"otherData\":{\"program\":\"apex\"},\"traceEvents\":[\n{\"ph\":\"M\",\"pid\":1,\"name\":\"process_name\",\"args\":{\"name\":\"cores\"}},\n{\"ph\":\"M\",\"pid\":2,\"name\":\"process_name\",\"args\":{\"name\":\"processes\"}},\n{\"ph\":\"M\",\"pid\":3,\"name\":\"process_name\",\"args\":{\"name\":\"objects\"}}"
+    codes "{\"displayTimeUnit\":\"ms\",\"otherData\":{\"program\":\"apex\"},\"traceEvents\":[\n{\"ph\":\"M\",\"pid\":1,\"name\":\"process_name\",\"args\":{\"name\":\"cores\"}},\n{\"ph\":\"M\",\"pid\":2,\"name\":\"process_name\",\"args\":{\"name\":\"processes\"}},\n{\"ph\":\"M\",\"pid\":3,\"name\":\"process_name\",\"args\":{\"name\":\"objects\"}},\n{\"ph\":\"M\",\"pid\":4,\"name\":\"process_name\",\"args\":{\"name\":\"partition\"}},\n{\"ph\":\"M\",\"pid\":4,\"tid\":1,\"name\":\"thread_name\",\"args\":{\"name\":\"init\"}},\n{\"ph\":\"M\",\"pid\":4,\"tid\":1,\"name\":\"thread_sort_index\",\"args\":{\"sort_index\":1}},\n{\"ph\":\"M\",\"pid\":4,\"tid\":2,\"name\":\"thread_name\",\"args\":{\"name\":\"ticks\"}},\n{\"ph\":\"M\",\"pid\":4,\"tid\":2,\"name\":\"thread_sort_index\",\"args\":{\"sort_index\":2}}"
 
 -- what comes before the columns: the names of the tracks, and all counts of the moment before the first entry
 abbrev pub head_text : Table → Shown → List ℕ
@@ -190,12 +195,25 @@ changes_text table time now before after =
     texts_of (core_at table time now before after) table.cores
     ++ texts_of (process_at table time now before after) (length table.processes)
 
--- the changes by an entry, and the marks of its notices
-abbrev pub column_text : Table → ℕ → Shown → Entry → Shown → List ℕ
-column_text table time before entry after =
-    changes_text table time entry.now before after
-    ++ objects_text table time entry.now before.counts after.counts
-    ++ flat_map (marked_text time entry.now) entry.notices
+-- the slice of an entry, and the beginnings of its arrows
+abbrev pub call_text : Table → Span → Entry → Shown → List ℕ
+call_text table span entry after =
+    call_of table span entry
+    ++ tails_of entry.process span.begin after entry.number entry.notices
+
+-- the marks of an entry's notices, and the ends of its arrows
+abbrev pub notices_text : ℕ → Entry → Shown → List ℕ
+notices_text time entry after =
+    flat_map (marked_text time entry.now) entry.notices
+    ++ heads_of time after entry.number entry.notices
+
+-- the call of an entry, the changes by it, and its notices
+abbrev pub column_text : Table → Span → Shown → Entry → Shown → List ℕ
+column_text table span before entry after =
+    call_text table span entry after
+    ++ changes_text table span.end entry.now before after
+    ++ objects_text table span.end entry.now before.counts after.counts
+    ++ notices_text span.end entry after
 
 -- what comes after the columns: the ends of all slices
 abbrev pub foot_text : Table → ℕ → ℕ → Shown → List ℕ

@@ -63,14 +63,14 @@ bare shown = record {
 -- the tracks are those of the moment, if a trace is drawn
 abbrev pub Follows : Style → Shown → Shown → Type 0
 Follows (Svg frame) tracks shown = Unit {0}
-Follows Trace tracks shown = tracks ≡ bare shown
+Follows (Trace tick) tracks shown = tracks ≡ bare shown
 
 -- there are n tracks, if a trace is drawn
 abbrev pub HasTracks : Style → Shown → ℕ → Type 0
 HasTracks (Svg frame) tracks n = Unit {0}
-HasTracks Trace tracks n = length tracks.cells ≡ n
+HasTracks (Trace tick) tracks n = length tracks.cells ≡ n
 
 -- there are counts of all objects of a table, and a place for each core that may be, if a trace is drawn
 abbrev pub Fits : Style → Shown → Table → Type 0
 Fits (Svg frame) tracks table = Unit {0}
-Fits Trace tracks table = HasCounts tracks.counts table × (length tracks.running ≡ MOST_CORES)
+Fits (Trace tick) tracks table = HasCounts tracks.counts table × (length tracks.running ≡ MOST_CORES)

@@ -2,9 +2,10 @@
 ghost use Rattle.std.specs.Prelude.{◌≡◌, ◌+◌, ◌*◌, ◌<◌, ◌≤◌, IfOk, length};
 ghost use Rattle.apex_types.specs.Limits.{latest};
 ghost use Rattle.apex_pictures.specs.Axes.{behind_of, idle_width, last_column, places_of, ticks_width, time_of};
+ghost use Rattle.apex_pictures.specs.Excerpts.{first_drawn};
 ghost use Rattle.apex_pictures.specs.declared.excerpts.TheConstants.{MOST_COLUMNS};
 
-use crate::excerpts::last_drawn;
+use crate::excerpts::Extent;
 use apex_dispatch::Kernel;
 use apex_store::Store;
 use std::alloc::{AllocError, Global};
@@ -65,15 +66,13 @@ fn time_of<S: Store>(kernel: &Kernel<S>, number: u32) -> u64
     }
 }
 
-/// The number of the last entry of a kernel's history that has a column, of those from the first to
-/// the last.
-pub(crate) fn last_column<S: Store>(kernel: &Kernel<S>, first: u32, last: u32) -> u32
-    ensures value { result ≡ last_column first last (length kernel.now.machine.history) }
+/// The number of the last entry of a kernel's history that has a column, of an extent.
+pub(crate) fn last_column<S: Store>(kernel: &Kernel<S>, extent: Extent) -> u32
+    ensures value { result ≡ last_column extent (length kernel.now.machine.history) }
     ensures within { result ≤ length kernel.now.machine.history }
-    ensures many { result < first + MOST_COLUMNS }
+    ensures many { result < first_drawn extent + MOST_COLUMNS }
 {
-    let last = last_drawn(first, last);
-    kernel.entries().len().min(last as usize) as u32
+    kernel.entries().len().min(extent.last_drawn() as usize) as u32
 }
 
 /// The place of the column behind this many others, before which there are these ticks, out of `all`.

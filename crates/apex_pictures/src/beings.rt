@@ -8,8 +8,8 @@ ghost use Rattle.apex_pictures.specs.declared.beings.Being.TheVariants as beings
 ghost use Rattle.apex_pictures.specs.declared.pieces.TheConstants.{PIECE_ROOM};
 
 use crate::names::{blackboard_name, buffer_name, event_flag_name, mutex_name, semaphore_name};
-use crate::pieces::{Piece, add, add_text};
-use apex_json::{MOST_ESCAPE, add_json};
+use crate::pieces::{Piece, add, add_escaped, add_text};
+use apex_json::MOST_ESCAPE;
 use apex_machine::Wait;
 use apex_table::Table;
 use apex_types::{BlackboardId, BufferId, EventId, MOST_NAME, MutexId, SemaphoreId, State};
@@ -180,7 +180,7 @@ fn add_named(piece: &mut Piece, front: &str, name: &[u8])
     ensures short { array_vec_len piece.new ≤ array_vec_len piece.old + BEING_ROOM }
 {
     add(piece, front);
-    add_json(piece, name);
+    add_escaped(piece, name);
 }
 
 /// Adds the name of the slice of a process that waits for an object; no byte for another one.

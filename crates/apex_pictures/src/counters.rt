@@ -2,24 +2,22 @@
 ghost use Rattle.std.specs.Prelude.{◌≡◌, ◌+◌, ◌*◌, ◌≤◌, ◌++◌, [], OnOk, length};
 ghost use Rattle.arrayvec.specs.ArrayVec.{array_vec_len};
 ghost use Rattle.apex_types.specs.declared.limits.TheConstants.{MOST_NAME, MOST_OBJECTS};
-ghost use Rattle.apex_pictures.specs.Counters.{change_text, count_at, counter_text, counters_text, kind_text, same_count};
+ghost use Rattle.apex_pictures.specs.Counters.{change_text, count_at, counter_text, counters_text, kind_text, object_name, same_count};
 ghost use Rattle.apex_pictures.specs.Counts.{counts_in, no_counts, object_count};
 ghost use Rattle.apex_pictures.specs.Stamps.{IsStamp};
 ghost use Rattle.apex_pictures.specs.declared.pieces.TheConstants.{COUNTER, PIECE_ROOM};
 
 use crate::counts::{Counts, count_at};
 use crate::kinds::Kind;
-use crate::pieces::{COUNTER, Piece, add, add_bytes, add_number, add_text};
+use crate::pieces::{COUNTER, Piece, add, add_bytes, add_escaped, add_number, add_text};
 use crate::stamps::Stamp;
 use apex_dispatch::Objects;
-use apex_json::add_json;
 use apex_table::Table;
 use apex_types::{MOST_NAME, MOST_OBJECTS};
 use std::alloc::AllocError;
 
 /// Adds the count of an object of this kind and name.
-// Not inlined, as an entry changes few counts.
-#[inline(never)]
+#[inline(always)]
 #[tactic(auto, using(std::proofs::Common::append_assoc))]
 fn add_count(piece: &mut Piece, time: u64, stamp: &Stamp, kind: Kind, name: &[u8], count: u64)
     requires stamp { IsStamp stamp.now time }
@@ -31,10 +29,38 @@ fn add_count(piece: &mut Piece, time: u64, stamp: &Stamp, kind: Kind, name: &[u8
     add_text(piece, *b",\n{\"ph\":\"C\",\"pid\":3");
     add_bytes(piece, stamp.time());
     add(piece, kind.front());
-    add_json(piece, name);
+    add_escaped(piece, name);
     add(piece, kind.back());
     add_number(piece, count);
     add_text(piece, *b"}}");
+}
+
+/// Adds the count of the object of a kind at a place.
+// Not inlined, as an entry changes few counts.
+#[inline(never)]
+fn add_changed(
+    piece: &mut Piece,
+    table: &Table,
+    time: u64,
+    stamp: &Stamp,
+    kind: Kind,
+    place: u8,
+    count: u64,
+)
+    requires stamp { IsStamp stamp.now time }
+    requires room { array_vec_len piece.old + COUNTER ≤ PIECE_ROOM }
+    ensures text { piece.new.items ≡ piece.old.items
+        ++ counter_text kind (object_name table.now kind place) time count }
+    ensures short { array_vec_len piece.new ≤ array_vec_len piece.old + COUNTER }
+{
+    add_count(
+        piece,
+        time,
+        stamp,
+        kind,
+        kind.object_name(table, place),
+        count,
+    );
 }
 
 #[inline(always)]
@@ -68,14 +94,7 @@ fn add_change(
     if is_same_count(before, count) {
         return;
     }
-    add_count(
-        piece,
-        time,
-        stamp,
-        kind,
-        kind.object_name(table, place),
-        count,
-    );
+    add_changed(piece, table, time, stamp, kind, place, count);
 }
 
 /// Adds the first count of the object of a kind at a place, if it has one.

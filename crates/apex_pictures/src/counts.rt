@@ -119,6 +119,8 @@ impl Counts {
             ++ objects_text table.now time stamp.now.ticks self.old
             (counts_of table.now (S.roster store.now) objects.now) }
         ensures counts { self.new ≡ counts_of table.now (S.roster store.now) objects.now }
+        ensures short { array_vec_len piece.new
+            ≤ array_vec_len piece.old + COUNTER * 4 * MOST_OBJECTS + TRACK * MOST_OBJECTS }
     {
         let values = self.values.as_mut_slice();
         add_kind(piece, table, objects, time, stamp, Kind::Semaphore, values);

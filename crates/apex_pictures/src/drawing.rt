@@ -12,17 +12,18 @@ ghost use Rattle.apex_pictures.specs.Instants.{instant_after};
 ghost use Rattle.apex_pictures.specs.Moments.{Shown, moment_in};
 ghost use Rattle.apex_pictures.specs.declared.drawing.DrawFault.TheVariants.{Memory};
 ghost use Rattle.apex_pictures.specs.Drawing.{CountsDrawing, Grows};
-ghost use Rattle.apex_pictures.specs.Pictures.{column_text, foot_text, head_text, picture_text};
+ghost use Rattle.apex_pictures.specs.Pictures.{column_text, foot_text, head_text, picture_text, span_of};
 ghost use Rattle.apex_pictures.specs.Svg as svg_text;
 ghost use Rattle.apex_pictures.specs.Tracks.{Fits, Follows, HasTracks, bare};
 
+use crate::calls::Span;
 use crate::counts::counts_of;
 use crate::frames::Frame;
-use crate::instants::Instant;
+use crate::instants::{Instant, TickLength};
 use crate::moments::{Moment, moment_of};
 use crate::styles::Style;
 use crate::tracks::{Tracks, tracks_of};
-use crate::{svg, trace};
+use crate::{borders, svg, trace};
 use apex_dispatch::Kernel;
 use apex_history::{Counted, Sink};
 use apex_store::Store;
@@ -63,8 +64,8 @@ fn put_head(
     ensures { OnOk result (text.new.items ≡ text.old.items ++ head_text style.now table.now) }
 {
     match style {
-        Style::Svg(frame) => svg::put_head(text, frame),
-        Style::Trace => trace::put_head(text, table, first),
+        Style::Svg(frame) => borders::put_head(text, frame),
+        Style::Trace(_) => trace::put_head(text, table, first),
     }
 }
 
@@ -83,11 +84,11 @@ fn put_foot<S: Store>(
         ++ foot_text style.now kernel.now.table kernel.now.machine) }
 {
     match style {
-        Style::Svg(frame) => svg::put_foot(text, kernel.table(), frame),
-        Style::Trace => {
+        Style::Svg(frame) => borders::put_foot(text, kernel.table(), frame),
+        Style::Trace(tick) => {
             kernel.holds();
             let end = instant.next(kernel.now());
-            trace::put_foot(text, kernel.table(), end.hundredths(), kernel.now(), last)
+            trace::put_foot(text, kernel.table(), end.time(*tick), kernel.now(), last)
         }
     }
 }
@@ -108,6 +109,17 @@ fn tracks_in<S: Store>(kernel: &Kernel<S>) -> Tracks
     tracks_of(kernel.store(), counts_of(kernel))
 }
 
+/// The times of two instants, for ticks of this length.
+fn span_of(tick: TickLength, begun: Instant, ended: Instant) -> Span
+    requires times { (begun.now ≤ latest) × (ended.now ≤ latest) }
+    ensures { result ≡ span_of tick begun ended }
+{
+    Span {
+        begin: begun.time(tick),
+        end: ended.time(tick),
+    }
+}
+
 /// Puts the column of the latest entry in a frame.
 // Not inlined: a function clears the room of its values at each call, and a moment is large.
 #[inline(never)]
@@ -125,12 +137,13 @@ fn put_svg_column<S: Store>(
     svg::put_column(text, kernel.table(), frame, entry, &moment)
 }
 
-/// Puts the column of the latest entry, which has this instant; if a trace is drawn, `shown` are
-/// the tracks before it, and then those after it.
+/// Puts the column of the latest entry, which has this instant, as `begun` is that before it; if a
+/// trace is drawn, `shown` are the tracks before it, and then those after it.
 fn put_column<S: Store>(
     text: &mut Vec<u8>,
     style: &Style,
     kernel: &Kernel<S>,
+    begun: Instant,
     instant: Instant,
     entry: &LentEntry<'_>,
     shown: &mut Tracks,
@@ -138,10 +151,11 @@ fn put_column<S: Store>(
     requires printable { IsPrintable kernel.now.table entry.now }
     requires many { HasTracks style.now shown.old (length kernel.now.machine.roster.records) }
     requires fits { Fits style.now shown.old kernel.now.table }
-    requires time { instant.now ≤ latest }
+    requires times { (begun.now ≤ latest) × (instant.now ≤ latest) }
     ensures drawn { (before : Shown) → Follows style.now shown.old before
         → OnOk result (text.new.items ≡ text.old.items ++ column_text style.now kernel.now.table
         (record {
+          begun = begun;
           instant = instant;
           before = before;
           entry = entry.entry.now;
@@ -152,7 +166,10 @@ fn put_column<S: Store>(
 {
     match style {
         Style::Svg(frame) => put_svg_column(text, frame, kernel, entry),
-        Style::Trace => trace::put_column(text, kernel, instant.hundredths(), entry, shown),
+        Style::Trace(tick) => {
+            let span = span_of(*tick, begun, instant);
+            trace::put_column(text, kernel, span, entry, shown)
+        }
     }
 }
 
@@ -185,8 +202,9 @@ fn draw_event<S: Store>(
     let Some(entry) = kernel.entries().latest() else {
         return Ok(());
     };
-    *instant = instant.next(kernel.now());
-    put_column(text, style, kernel, *instant, &entry, shown)
+    let begun = *instant;
+    *instant = begun.next(kernel.now());
+    put_column(text, style, kernel, begun, *instant, &entry, shown)
 }
 
 /// Writes the text out, and forgets it.

@@ -1,29 +1,22 @@
 //! The places of the columns and of the rows of a picture.
-ghost use Rattle.std.specs.Prelude.{◌≡◌, ◌<◌, ◌≤◌, ◌^◌, IfOk, length, None, Some};
-ghost use Rattle.apex_types.specs.declared.limits.TheConstants.{MOST_CORES, MOST_PROCESSES};
-ghost use Rattle.arrayvec.specs.ArrayVec.{array_vec_len};
+ghost use Rattle.std.specs.Prelude.{◌≡◌, ◌<◌, ◌≤◌, ◌^◌, IfOk, length, option_map, None, Some};
 ghost use Rattle.apex_pictures.specs.Axes.{behind_of, last_column, places_of};
-ghost use Rattle.apex_pictures.specs.Excerpts.{excerpt_of, last_drawn};
-ghost use Rattle.apex_pictures.specs.Svg.{behind, column_at, column_place, column_width, heading_of, row_of, shows};
+ghost use Rattle.apex_pictures.specs.Excerpts.{excerpt_of, first_drawn, last_drawn};
+ghost use Rattle.apex_pictures.specs.Rows.{HasRows};
+ghost use Rattle.apex_pictures.specs.Svg.{behind, column_at, column_place, column_width, has_row, heading_of, row_of, shows};
 
 use crate::axes::{Axis, behind_of, last_column, places_of};
-use crate::excerpts::{Excerpt, excerpt_of, last_drawn};
+use crate::excerpts::{Excerpt, Extent};
 use crate::marks::Mark;
-use crate::moments::CORES;
+use crate::rows::{ROW, Rows};
 use crate::svg::{MOST_CALL, bare_line};
 use crate::words::name_of;
 use apex_dispatch::Kernel;
 use apex_store::Store;
 use apex_table::Table;
-use apex_types::{
-    Call, CoreId, MOST_INIT_STEPS, MOST_PROCESSES, ObjectCall, ProcessId, ProcessService,
-};
-use arrayvec::ArrayVec;
+use apex_types::{CoreId, ProcessId};
 use itoa::Buffer;
 use std::alloc::{AllocError, Global};
-
-/// The distance from one row to the next.
-const ROW: u32 = 24;
 
 /// The least width of a picture: that of its key.
 const LEAST_WIDTH: u32 = 780;
@@ -57,11 +50,11 @@ pub struct Frame {
     pub last: u32,
     /// What is drawn, if more was asked for.
     pub excerpt: Option<Excerpt>,
+    /// The rows of the processes, and the headings of the cores.
+    pub rows: Rows,
     /// The mark of a departure, which is drawn behind the last column, if there is one.
     pub mark: Option<Mark>,
     pub(crate) width: u32,
-    /// The height at which the calls end and the rows begin.
-    pub(crate) top: u32,
     /// The height at which the rows end.
     pub(crate) bottom: u32,
     /// Where the key begins, below the instants.
@@ -72,93 +65,12 @@ pub struct Frame {
     pub places: Vec<u32>,
     /// The place behind the last column.
     pub behind: u32,
-    /// The place of each process's row.
-    rows: ArrayVec<u32, MOST_PROCESSES>,
-    /// The place of each core's heading.
-    headings: ArrayVec<u32, CORES>,
     /// The look of the marks.
     pub(crate) style: &'static str,
     /// The meaning of each mark.
     pub(crate) key: &'static str,
     /// The end of the file.
     pub(crate) end: &'static str,
-}
-
-/// The core to which a call binds this process.
-fn core_bound(call: &Call, process: ProcessId) -> Option<u8> {
-    match call {
-        Call::Process(ObjectCall::KindService(bound, ProcessService::InitializeCoreAffinity(core)))
-            if *bound == process => { Some(*core) }
-        _ => None,
-    }
-}
-
-/// The core to which the init list binds the process: the last one named for it, or core 0.
-fn core_of(table: &Table, process: ProcessId) -> u8 {
-    let mut core = 0;
-    for place in 0..MOST_INIT_STEPS {
-        if let Some(call) = table.init_call(place) {
-            core = core_bound(&call, process)
-                .filter(|bound| *bound < table.cores())
-                .unwrap_or(core);
-        }
-    }
-    core
-}
-
-/// The cores to which the init list binds the processes.
-fn cores_of(table: &Table) -> ArrayVec<u8, MOST_PROCESSES>
-    ensures { array_vec_len result ≤ MOST_PROCESSES }
-{
-    let mut cores = ArrayVec::new();
-    for place in 0..table.process_count() {
-        cores.push(core_of(table, ProcessId::at(place as u8)));
-    }
-    cores
-}
-
-/// The number of these that are below a core.
-fn count_below(cores: &[u8], core: u8) -> u32
-    requires { length cores.now ≤ MOST_PROCESSES }
-    ensures { result ≤ MOST_PROCESSES }
-{
-    cores.iter().filter(|other| **other < core).count() as u32
-}
-
-/// The number of these that are this core.
-fn count_of(cores: &[u8], core: u8) -> u32
-    requires { length cores.now ≤ MOST_PROCESSES }
-    ensures { result ≤ MOST_PROCESSES }
-{
-    cores.iter().filter(|other| **other == core).count() as u32
-}
-
-/// The places of the rows of processes that are bound to these cores: below the headings of their
-/// cores, in the order of their numbers.
-fn rows_of(cores: &[u8], top: u32) -> ArrayVec<u32, MOST_PROCESSES>
-    requires few_cores { length cores.now ≤ MOST_PROCESSES }
-    requires range { top ≤ 30000 }
-{
-    let mut rows = ArrayVec::new();
-    for place in 0..cores.len() {
-        let core = cores[place];
-        let above = count_below(cores, core) + count_of(&cores[..place], core);
-        rows.push(top + ROW * (above + u32::from(core) + 1));
-    }
-    rows
-}
-
-/// The places of the headings of `count` cores.
-fn headings_of(cores: &[u8], count: u8, top: u32) -> ArrayVec<u32, CORES>
-    requires few_cores { length cores.now ≤ MOST_PROCESSES }
-    requires cores { count ≤ MOST_CORES }
-    requires range { top ≤ 30000 }
-{
-    let mut headings = ArrayVec::new();
-    for core in 0..count {
-        headings.push(top + ROW * (count_below(cores, core) + u32::from(core)));
-    }
-    headings
 }
 
 /// The number of letters of the longest name of a process.
@@ -204,53 +116,53 @@ fn instant_letters(now: u64) -> u32
 }
 
 impl Frame {
-    /// The frame for the entries of a kernel's history with these numbers, [`MOST_COLUMNS`] at the
-    /// most, with their columns along this axis.
+    /// The frame for the entries of a kernel's history that are asked for, [`MOST_COLUMNS`] at the
+    /// most, with their columns along this axis, and with rows for these processes, or for all.
     ///
     /// [`MOST_COLUMNS`]: crate::MOST_COLUMNS
     pub fn new<S: Store>(
         alloc: Global,
-        axis: Axis,
         kernel: &Kernel<S>,
-        first: u32,
-        last: u32,
+        axis: Axis,
+        extent: Extent,
+        only: Option<&[ProcessId]>,
     ) -> Result<Frame, AllocError>
-        ensures first { IfOk result (λ frame. frame.first ≡ first) }
-        ensures last { IfOk result (λ frame. frame.last ≡ last_drawn first last) }
+        ensures first { IfOk result (λ frame. frame.first ≡ first_drawn extent) }
+        ensures last { IfOk result (λ frame. frame.last ≡ last_drawn extent) }
         ensures excerpt { IfOk result (λ frame. frame.excerpt
-            ≡ excerpt_of first last (length kernel.now.machine.history)) }
+            ≡ excerpt_of extent (length kernel.now.machine.history)) }
+        ensures rows { IfOk result (λ frame. HasRows kernel.now.table
+            (option_map (λ list. list.now) only.entry) frame.rows) }
         ensures places { let history = kernel.now.machine.history in
             IfOk result (λ frame. frame.places.items
-            ≡ places_of axis history first (last_column first last (length history))) }
+            ≡ places_of axis history (first_drawn extent) (last_column extent (length history))) }
         ensures behind { let history = kernel.now.machine.history in
             IfOk result (λ frame. frame.behind
-            ≡ behind_of axis history first (last_column first last (length history))) }
+            ≡ behind_of axis history (first_drawn extent) (last_column extent (length history))) }
         ensures unmarked { IfOk result (λ frame. frame.mark ≡ None) }
     {
         let table = kernel.table();
-        let end = last_column(kernel, first, last);
+        let first = extent.first_drawn();
+        let end = last_column(kernel, extent);
         let places = places_of(alloc, kernel, axis, first, end)?;
         let behind = behind_of(kernel, axis, first, end);
         let longest = longest_call(kernel, first.saturating_sub(1) as usize, end as usize);
         let top = 20 + RISE * longest;
         let left = 50 + LETTER * longest_name(table);
-        let cores = cores_of(table);
-        let rows = table.process_count() as u32 + u32::from(table.cores());
-        let bottom = top + ROW * rows + 6;
+        let rows = Rows::new(table, only, top);
+        let bottom = top + ROW * rows.lines() + 6;
         Ok(Frame {
             first,
-            last: last_drawn(first, last),
-            excerpt: excerpt_of(first, last, kernel.entries().len()),
+            last: extent.last_drawn(),
+            excerpt: extent.excerpt(kernel.entries().len()),
+            rows,
             mark: None,
             width: (left + behind + ADVANCE * longest + 30).max(LEAST_WIDTH),
-            top,
             bottom,
             foot: bottom + 40 + RISE * instant_letters(kernel.now()),
             left,
             places,
             behind,
-            rows: rows_of(cores.as_slice(), top),
-            headings: headings_of(cores.as_slice(), table.cores(), top),
             style: STYLE,
             key: KEY,
             end: END,
@@ -262,6 +174,7 @@ impl Frame {
         ensures first { result.first ≡ self.first }
         ensures last { result.last ≡ self.last }
         ensures excerpt { result.excerpt ≡ self.excerpt }
+        ensures rows { result.rows ≡ self.rows }
         ensures places { result.places ≡ self.places }
         ensures behind { result.behind ≡ self.behind }
         ensures mark { result.mark ≡ Some mark }
@@ -271,6 +184,16 @@ impl Frame {
         self.width = self.width.max(width);
         self.mark = Some(mark);
         self
+    }
+
+    /// Whether a process has a row.
+    pub(crate) fn has_row(&self, process: ProcessId) -> bool
+        ensures { result ≡ has_row self.now process }
+    {
+        match self.rows.chosen.as_slice().get(process.place()) {
+            Some(chosen) => *chosen,
+            None => false,
+        }
     }
 
     /// The place behind the last column.
@@ -327,7 +250,7 @@ impl Frame {
         ensures value { result ≡ row_of self.now process }
         ensures range { result < 2 ^ 32 }
     {
-        match self.rows.as_slice().get(process.place()) {
+        match self.rows.places.as_slice().get(process.place()) {
             Some(row) => u64::from(*row),
             None => 0,
         }
@@ -338,7 +261,12 @@ impl Frame {
         ensures value { result ≡ heading_of self.now core }
         ensures range { result < 2 ^ 32 }
     {
-        match self.headings.as_slice().get(usize::from(core.number())) {
+        match self
+            .rows
+            .headings
+            .as_slice()
+            .get(usize::from(core.number()))
+        {
             Some(heading) => u64::from(*heading),
             None => 0,
         }

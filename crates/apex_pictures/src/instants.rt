@@ -1,16 +1,73 @@
 //! The instants of a trace: where the moment after an entry stands on its axis.
-ghost use Rattle.std.specs.Prelude.{◌≡◌, ◌+◌, ◌<◌, ◌≤◌, ◌++◌};
+ghost use Rattle.std.specs.Prelude.{◌≡◌, ◌+◌, ◌<◌, ◌≤◌, ◌++◌, Some};
 ghost use Rattle.arrayvec.specs.ArrayVec.{array_vec_len};
 ghost use Rattle.apex_types.specs.Limits.{latest};
 ghost use Rattle.apex_types.specs.declared.limits.TheConstants.{MOST_ENTRIES};
-ghost use Rattle.apex_pictures.specs.Instants.{fraction_text, hundredths, next_instant, opening_instant, time_text};
-ghost use Rattle.apex_pictures.specs.declared.instants.TheConstants.{TIME_ROOM};
+ghost use Rattle.apex_pictures.specs.Instants.{fraction_text, next_instant, opening_instant, tick_length, time_at, time_text};
+ghost use Rattle.apex_pictures.specs.declared.instants.TheConstants.{LEAST_TICK, LONGEST_TICK, TIME_ROOM};
 
 use crate::pieces::{DIGITS, add_digit, add_number, add_text};
 use arrayvec::ArrayVec;
+use std::marker::Model;
 
-/// The most bytes of the text of a time: its units, a point and two digits.
-pub(crate) const TIME_ROOM: usize = DIGITS + 3;
+/// The most bytes of the text of a time: its microseconds, a point and three digits.
+pub(crate) const TIME_ROOM: usize = DIGITS + 4;
+
+/// The least length of a tick, in microseconds: a shorter one has no room for all moments.
+pub const LEAST_TICK: u32 = 100;
+
+/// The greatest length of a tick, in microseconds.
+pub const LONGEST_TICK: u32 = 100_000;
+
+/// The length of a tick on the axis of a trace.
+#[derive(Clone, Copy)]
+pub struct TickLength {
+    /// `LEAST_TICK` to `LONGEST_TICK`.
+    microseconds: u32,
+}
+
+impl Model for TickLength {
+    ghost use Rattle.std.specs.Prelude.{◌≤◌, ℕ};
+    ghost use Rattle.apex_pictures.specs.declared.instants.TheConstants.{LEAST_TICK, LONGEST_TICK};
+
+    ghost Value = { ℕ };
+
+    ghost view = { λ t. t.microseconds };
+
+    ghost invariant = { λ t. (LEAST_TICK ≤ t.microseconds) × (t.microseconds ≤ LONGEST_TICK) };
+
+    ghost inverse = { λ n. record { microseconds = n } };
+}
+
+impl TickLength {
+    /// The length of this many microseconds, if it is from `LEAST_TICK` to `LONGEST_TICK`.
+    pub fn new(microseconds: u32) -> Option<TickLength>
+        ensures { result ≡ tick_length (Some microseconds) }
+    {
+        if (LEAST_TICK..=LONGEST_TICK).contains(&microseconds) {
+            Some(TickLength { microseconds })
+        } else {
+            None
+        }
+    }
+
+    /// A millisecond.
+    pub fn usual() -> TickLength
+        ensures { result ≡ 1000 }
+    {
+        TickLength {
+            microseconds: 1_000,
+        }
+    }
+
+    /// The length in microseconds, `LEAST_TICK` to `LONGEST_TICK`.
+    pub fn microseconds(self) -> u32
+        ensures value { result ≡ self }
+        ensures range { (LEAST_TICK ≤ result) × (result ≤ LONGEST_TICK) }
+    {
+        self.microseconds
+    }
+}
 
 /// The instant of a moment: its time, and its place among the moments of that time.
 #[derive(Clone, Copy)]
@@ -44,39 +101,45 @@ impl Instant {
         }
     }
 
-    /// The instant in hundredths of a unit, of which a tick has 1,000.
-    pub(crate) fn hundredths(self) -> u64
+    /// The time of the instant in nanoseconds, for ticks of this length.
+    pub(crate) fn time(self, tick: TickLength) -> u64
         requires time { self.now ≤ latest }
-        ensures { result ≡ hundredths self }
+        ensures { result ≡ time_at tick self }
     {
-        let place = u64::from(self.place);
+        let (tick, place) = (u64::from(tick.microseconds()), u64::from(self.place));
         let within = if place < 100 {
-            100 * place
+            tick * place
         } else {
-            place + 9_900
+            tick * 100 + tick * (place - 100) / 100
         };
-        100_000 * self.now + within
+        1_000 * tick * self.now + within
     }
 }
 
-/// Adds the hundredths beyond the units, if there are any.
+/// Adds the thousandths beyond the units, if there are any, without zeros at the end.
 #[inline(always)]
-fn add_fraction<const ROOM: usize>(text: &mut ArrayVec<u8, ROOM>, hundredths: u8)
-    requires digits { hundredths < 100 }
-    requires room { array_vec_len text.old + 3 ≤ ROOM }
-    ensures text { text.new.items ≡ text.old.items ++ fraction_text hundredths }
-    ensures short { array_vec_len text.new ≤ array_vec_len text.old + 3 }
+#[tactic(auto, using(std::proofs::Common::append_assoc))]
+fn add_fraction<const ROOM: usize>(text: &mut ArrayVec<u8, ROOM>, thousandths: u16)
+    requires digits { thousandths < 1000 }
+    requires room { array_vec_len text.old + 4 ≤ ROOM }
+    ensures text { text.new.items ≡ text.old.items ++ fraction_text thousandths }
+    ensures short { array_vec_len text.new ≤ array_vec_len text.old + 4 }
 {
-    if hundredths == 0 {
+    if thousandths == 0 {
         return;
     }
     add_text(text, *b".");
-    add_digit(text, hundredths / 10);
-    add_digit(text, hundredths % 10);
+    add_digit(text, (thousandths / 100) as u8);
+    if thousandths % 100 == 0 {
+        return;
+    }
+    add_digit(text, (thousandths / 10 % 10) as u8);
+    if thousandths % 10 != 0 {
+        add_digit(text, (thousandths % 10) as u8);
+    }
 }
 
-/// Adds the text of a time in hundredths of a unit: units, and two digits behind a point if there are
-/// hundredths beyond them.
+/// Adds the text of a time in nanoseconds: microseconds, and up to three digits behind a point.
 #[inline(always)]
 #[tactic(auto, using(std::proofs::Common::append_assoc), unfolding(crate::specs::Instants::time_text))]
 pub(crate) fn add_time<const ROOM: usize>(text: &mut ArrayVec<u8, ROOM>, time: u64)
@@ -84,6 +147,6 @@ pub(crate) fn add_time<const ROOM: usize>(text: &mut ArrayVec<u8, ROOM>, time: u
     ensures text { text.new.items ≡ text.old.items ++ time_text time }
     ensures short { array_vec_len text.new ≤ array_vec_len text.old + TIME_ROOM }
 {
-    add_number(text, time / 100);
-    add_fraction(text, (time % 100) as u8);
+    add_number(text, time / 1_000);
+    add_fraction(text, (time % 1_000) as u16);
 }

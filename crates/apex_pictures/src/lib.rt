@@ -3,8 +3,11 @@
 //! objects and the owner of each mutex.
 #![tactic(auto)]
 
+mod arrows;
 mod axes;
 mod beings;
+mod borders;
+mod calls;
 mod counters;
 mod counts;
 mod drawing;
@@ -18,6 +21,7 @@ mod moments;
 mod mutexes;
 mod names;
 mod pieces;
+mod rows;
 mod stamps;
 mod styles;
 mod svg;
@@ -29,9 +33,11 @@ mod words;
 pub use axes::Axis;
 pub use counts::Counts;
 pub use drawing::{DrawFault, draw};
-pub use excerpts::{Excerpt, MOST_COLUMNS};
+pub use excerpts::{Excerpt, Extent, MOST_COLUMNS, Side};
 pub use frames::Frame;
+pub use instants::{LEAST_TICK, LONGEST_TICK, TickLength};
 pub use laws::{columns_are_apart, columns_say_entries, moments_are_in_order, texts_are_read_back};
 pub use marks::Mark;
 pub use moments::{Cell, Moment};
+pub use rows::{Rows, Selection};
 pub use styles::Style;

@@ -10,12 +10,11 @@ ghost use Rattle.apex_pictures.specs.declared.pieces.TheConstants.{PIECE_ROOM, T
 ghost use Rattle.apex_pictures.specs.declared.trace.TheConstants.{BEGIN, NAME};
 
 use crate::names::mutex_name;
-use crate::pieces::{Piece, TRACK, add_text};
+use crate::pieces::{Piece, TRACK, add_escaped, add_text};
 use crate::stamps::Stamp;
 use crate::texts::{Part, put_all};
 use crate::trace::{BEGIN, NAME, Spot, add_begin, add_ended, is_same_process, mutex_spot};
 use crate::words::{id_part, name_of};
-use apex_json::add_json;
 use apex_store::Store;
 use apex_table::Table;
 use apex_types::{MutexId, ProcessId};
@@ -65,7 +64,7 @@ fn add_owner(piece: &mut Piece, table: &Table, spot: Spot, stamp: &Stamp, owner:
 {
     if let Some(process) = owner {
         add_begin(piece, spot, stamp);
-        add_json(piece, name_of(table, *process));
+        add_escaped(piece, name_of(table, *process));
         add_text(piece, *b"\"}");
     }
 }

@@ -2,12 +2,14 @@
 ghost use Rattle.std.specs.Prelude.{◌≡◌, ◌+◌, ◌≤◌, ◌++◌, length};
 ghost use Rattle.arrayvec.specs.ArrayVec.{array_vec_len};
 ghost use Rattle.apex_pictures.specs.Stamps.{IsGroup, IsStamp, begin_front, end_front};
+ghost use Rattle.apex_pictures.specs.Times.{time_back};
 ghost use Rattle.apex_pictures.specs.declared.pieces.TheConstants.{PIECE_ROOM};
 ghost use Rattle.apex_pictures.specs.declared.stamps.TheConstants.{BEGIN_ROOM, FRONT, TIMED};
 
 use crate::instants::{TIME_ROOM, add_time};
 use crate::pieces::{DIGITS, Piece, add_bytes, add_number, add_text};
 use arrayvec::ArrayVec;
+use std::marker::Model;
 
 /// The bytes before the number of a track.
 pub(crate) const FRONT: usize = 26;
@@ -18,13 +20,63 @@ pub(crate) const TIMED: usize = TIME_ROOM + 6;
 /// The most bytes behind the number of a track at the beginning of a slice.
 pub(crate) const BEGIN_ROOM: usize = TIMED + DIGITS + 25;
 
+/// A time on the trace's axis, with its text as it stands behind the number of a track.
+#[derive(Drop)]
+pub(crate) struct Timed {
+    /// In nanoseconds.
+    time: u64,
+    text: ArrayVec<u8, TIMED>,
+}
+
+impl Model for Timed {
+    ghost use Rattle.std.specs.Prelude.{◌≡◌, ℕ};
+    ghost use Rattle.apex_pictures.specs.Times.{time_back};
+
+    ghost Value = { ℕ };
+
+    ghost view = { λ t. t.time };
+
+    ghost invariant = { λ t. t.text.items ≡ time_back t.time };
+}
+
+impl Timed {
+    #[tactic(auto, using(std::proofs::Common::append_assoc))]
+    pub(crate) fn new(time: u64) -> Timed
+        ensures { result ≡ time }
+    {
+        let mut text = ArrayVec::new();
+        add_text(&mut text, *b",\"ts\":");
+        add_time(&mut text, time);
+        Timed { time, text }
+    }
+
+    /// Makes it this time, if it is another one.
+    #[inline(always)]
+    pub(crate) fn reach(&mut self, time: u64)
+        ensures { self.new ≡ time }
+    {
+        if self.time != time {
+            *self = Timed::new(time);
+        }
+    }
+
+    /// Its text, as it stands behind the number of a track.
+    #[inline(always)]
+    pub(crate) fn text(&self) -> &[u8]
+        ensures value { result.now ≡ time_back self.now }
+        ensures short { length result.now ≤ TIMED }
+    {
+        self.text.as_slice()
+    }
+}
+
 /// The time of an entry, and its texts, which are the same in all slices.
 #[derive(Drop)]
 pub(crate) struct Stamp {
     /// The partition's time in ticks.
     ticks: u64,
-    /// The time on the trace's axis, as it stands behind the number of a track.
-    time: ArrayVec<u8, TIMED>,
+    /// The time on the trace's axis.
+    time: Timed,
     /// What is behind the number of a track at the beginning of a slice, up to its name.
     begin: ArrayVec<u8, BEGIN_ROOM>,
 }
@@ -36,11 +88,9 @@ impl Stamp {
         ensures stamp { IsStamp result time }
         ensures ticks { result.ticks ≡ ticks }
     {
-        let mut timed = ArrayVec::new();
-        add_text(&mut timed, *b",\"ts\":");
-        add_time(&mut timed, time);
+        let timed = Timed::new(time);
         let mut begin = ArrayVec::new();
-        add_bytes(&mut begin, timed.as_slice());
+        add_bytes(&mut begin, timed.text());
         add_text(&mut begin, *b",\"args\":{\"now\":");
         add_number(&mut begin, ticks);
         add_text(&mut begin, *b"},\"name\":\"");
@@ -54,10 +104,18 @@ impl Stamp {
     /// The time, as it stands behind the number of a track.
     #[inline(always)]
     pub(crate) fn time(&self) -> &[u8]
-        ensures value { result.now ≡ self.now.time.items }
+        ensures value { result.now ≡ time_back self.now.time }
         ensures short { length result.now ≤ TIMED }
     {
-        self.time.as_slice()
+        self.time.text()
+    }
+
+    /// The time alone, as the entry after this one takes it.
+    #[inline(always)]
+    pub(crate) fn into_time(self) -> Timed
+        ensures { result ≡ self.time }
+    {
+        self.time
     }
 
     /// What is behind the number of a track at the beginning of a slice, up to its name.

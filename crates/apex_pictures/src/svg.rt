@@ -1,101 +1,22 @@
-//! A picture as SVG: its head, its columns, and its labels and key.
+//! The columns of a picture as SVG.
 ghost use Rattle.std.specs.Prelude.{◌≡◌, ◌≤◌, ◌++◌, codes, drop, flat_map, length, take, OnOk};
 ghost use Rattle.apex_calls.specs.Lines.{IsPrintable, line_of};
 ghost use Rattle.apex_machine.specs.text.Listing.{texts_of};
 ghost use Rattle.apex_pictures.specs.Texts.{xml_text};
-ghost use Rattle.apex_pictures.specs.Svg.{bare, bar_text, call_end, call_text, cell_at, cell_end, cell_part, cell_text, circle_text, column_end, column_text, corner_text, cut_text, dash_text, dash_to, excerpt_text, foot_text, heading_text, head_text, instant_text, is_timed, key_text, label_text, mark_part, mark_text, marks_text, mutex_text, note_text, notice_process, outline_text, owns_part, ring_text, said_text, start_text, time_text, title_text, waits_part, wedge_text, white_text};
+ghost use Rattle.apex_pictures.specs.Svg.{bare, bar_text, call_at, call_end, call_text, cell_at, cell_end, cell_part, cell_text, circle_text, column_end, column_text, corner_text, cut_text, dash_text, dash_to, instant_text, is_heard, is_timed, marks_text, mutex_text, notice_process, outline_text, owns_part, ring_in, ring_text, said_text, start_text, time_text, title_text, waits_part, wedge_at, wedge_text};
 
-use crate::excerpts::Excerpt;
 use crate::frames::Frame;
-use crate::marks::Mark;
 use crate::moments::{Cell, Moment};
 use crate::texts::{Part, put, put_all, put_xml};
 use crate::words::{id_part, name_of, notice_word, put_object, put_wait, state_word};
 use apex_history::{Lines, NextSteps, put_line};
 use apex_machine::Holding;
 use apex_table::Table;
-use apex_types::{Caller, CoreId, LentEntry, Notice, ProcessId, Reply, Who};
+use apex_types::{Caller, LentEntry, Notice, ProcessId, Reply, Who};
 use std::alloc::AllocError;
 
 /// The most bytes of a call and its reply that are drawn above a column.
 pub(crate) const MOST_CALL: usize = 60;
-
-/// Puts the heading of a core.
-fn put_heading(text: &mut Vec<u8>, frame: &Frame, core: CoreId) -> Result<(), AllocError>
-    ensures { OnOk result (text.new.items ≡ text.old.items ++ heading_text frame.now core) }
-{
-    put_all(
-        text,
-        &[
-            Part::Plain("<text class='core' x='8' y='"),
-            Part::Number(frame.heading(core) + 13),
-            Part::Plain("'>core "),
-            Part::Number(u64::from(core.number())),
-            Part::Plain("</text>\n"),
-        ],
-    )
-}
-
-/// Puts the label of a process's row.
-fn put_label(
-    text: &mut Vec<u8>,
-    table: &Table,
-    frame: &Frame,
-    process: ProcessId,
-) -> Result<(), AllocError>
-    ensures { OnOk result (text.new.items ≡ text.old.items
-        ++ label_text table.now frame.now process) }
-{
-    put_all(
-        text,
-        &[
-            Part::Plain("<text x='20' y='"),
-            Part::Number(frame.row(process) + 13),
-            Part::Plain("'>"),
-            id_part(process),
-            Part::Plain(" "),
-            Part::Xml(name_of(table, process)),
-            Part::Plain("</text>\n"),
-        ],
-    )
-}
-
-/// Puts what comes before the columns.
-pub(crate) fn put_head(text: &mut Vec<u8>, frame: &Frame) -> Result<(), AllocError>
-    ensures { OnOk result (text.new.items ≡ text.old.items ++ head_text frame.now) }
-{
-    put_all(
-        text,
-        &[
-            Part::Plain("<svg xmlns='http://www.w3.org/2000/svg' width='"),
-            Part::Number(u64::from(frame.width)),
-            Part::Plain("' height='"),
-            Part::Number(u64::from(frame.foot) + 24),
-            Part::Plain("' font-family='DejaVu Sans, sans-serif' font-size='11'>\n"),
-            Part::Plain(frame.style),
-        ],
-    )
-}
-
-fn put_headings(text: &mut Vec<u8>, table: &Table, frame: &Frame) -> Result<(), AllocError>
-    ensures { OnOk result (text.new.items ≡ text.old.items
-        ++ texts_of (heading_text frame.now) table.now.cores) }
-{
-    for core in 0..table.cores() {
-        put_heading(text, frame, CoreId::new(core))?;
-    }
-    Ok(())
-}
-
-fn put_labels(text: &mut Vec<u8>, table: &Table, frame: &Frame) -> Result<(), AllocError>
-    ensures { OnOk result (text.new.items ≡ text.old.items
-        ++ texts_of (label_text table.now frame.now) (length table.now.processes)) }
-{
-    for place in 0..table.process_count() {
-        put_label(text, table, frame, ProcessId::at(place as u8))?;
-    }
-    Ok(())
-}
 
 /// Whether time goes on with the entry, or it is the first that is drawn.
 fn is_timed(frame: &Frame, entry: &LentEntry<'_>) -> bool
@@ -115,7 +36,7 @@ fn put_instant(text: &mut Vec<u8>, frame: &Frame, now: u64) -> Result<(), AllocE
         text,
         &[
             Part::Plain("<line class='time' y1='"),
-            Part::Number(u64::from(frame.top)),
+            Part::Number(u64::from(frame.rows.top)),
             Part::Plain("' y2='"),
             Part::Number(u64::from(frame.bottom) + 14),
             Part::Plain("'/><text class='now' transform='translate(4,"),
@@ -220,7 +141,7 @@ fn put_title(text: &mut Vec<u8>, frame: &Frame, line: &[u8]) -> Result<(), Alloc
         text,
         &[
             Part::Plain("<text class='call' transform='translate(19,"),
-            Part::Number(u64::from(frame.top)),
+            Part::Number(u64::from(frame.rows.top)),
             Part::Plain(") rotate(-60)'><title>"),
             Part::Xml(line),
             Part::Plain("</title>"),
@@ -265,6 +186,34 @@ fn put_call(
     put_title(text, frame, line.as_slice())?;
     put_said(text, table, entry)?;
     put_call_end(text)
+}
+
+/// Whether the caller is no process without a row.
+fn is_heard(frame: &Frame, caller: Caller) -> bool
+    ensures { result ≡ is_heard frame.now caller }
+{
+    match caller {
+        Caller::Process(process) => frame.has_row(process),
+        Caller::Init | Caller::Nobody => true,
+    }
+}
+
+/// Puts the call and the reply of an entry above its column, unless a process calls that has no row.
+fn put_call_at(
+    text: &mut Vec<u8>,
+    table: &Table,
+    frame: &Frame,
+    entry: &LentEntry<'_>,
+) -> Result<(), AllocError>
+    requires { IsPrintable table.now entry.now }
+    ensures { OnOk result (text.new.items ≡ text.old.items
+        ++ call_at table.now frame.now entry.entry.now) }
+{
+    if is_heard(frame, entry.process) {
+        put_call(text, table, frame, entry)
+    } else {
+        Ok(())
+    }
 }
 
 /// Puts the wait of a process.
@@ -384,7 +333,26 @@ fn put_cell(
     put_owns(text, frame, width, process, cell.owned.as_slice())
 }
 
-/// Puts the cells of all processes.
+/// Puts the cell of a process of a moment, if it has a row.
+fn put_cell_at(
+    text: &mut Vec<u8>,
+    table: &Table,
+    frame: &Frame,
+    width: u64,
+    moment: &Moment,
+    process: ProcessId,
+) -> Result<(), AllocError>
+    ensures { OnOk result (text.new.items ≡ text.old.items
+        ++ cell_at table.now frame.now width moment.now process) }
+{
+    if frame.has_row(process) {
+        put_cell(text, table, frame, width, process, &moment.cell(process))
+    } else {
+        Ok(())
+    }
+}
+
+/// Puts the cells of all processes that have a row.
 fn put_cells(
     text: &mut Vec<u8>,
     table: &Table,
@@ -397,8 +365,14 @@ fn put_cells(
         (length table.now.processes)) }
 {
     for place in 0..table.process_count() {
-        let process = ProcessId::at(place as u8);
-        put_cell(text, table, frame, width, process, &moment.cell(process))?;
+        put_cell_at(
+            text,
+            table,
+            frame,
+            width,
+            moment,
+            ProcessId::at(place as u8),
+        )?;
     }
     Ok(())
 }
@@ -427,6 +401,27 @@ fn put_circle(
     )
 }
 
+/// Puts the ring in the row of a caller, if it has one.
+fn put_ring_in(
+    text: &mut Vec<u8>,
+    frame: &Frame,
+    line: &[u8],
+    caller: Caller,
+) -> Result<(), AllocError>
+    ensures { OnOk result (text.new.items ≡ text.old.items ++ ring_in frame.now line.now caller) }
+{
+    match caller {
+        Caller::Process(process) => {
+            if frame.has_row(process) {
+                put_circle(text, frame, process, line)
+            } else {
+                Ok(())
+            }
+        }
+        Caller::Init | Caller::Nobody => Ok(()),
+    }
+}
+
 /// Puts the ring of the caller.
 fn put_ring(
     text: &mut Vec<u8>,
@@ -439,10 +434,7 @@ fn put_ring(
         ++ ring_text table.now frame.now entry.entry.now) }
 {
     let line = line_of(table, entry);
-    match entry.process {
-        Caller::Process(caller) => put_circle(text, frame, caller, line.as_slice()),
-        Caller::Init | Caller::Nobody => Ok(()),
-    }
+    put_ring_in(text, frame, line.as_slice(), entry.process)
 }
 
 fn notice_process(notice: &Notice) -> ProcessId
@@ -479,7 +471,7 @@ fn put_dash(
     )
 }
 
-/// Puts the line from the caller's ring, if there is one, to the wedge of a notice.
+/// Puts the line from the caller's ring to the wedge of a notice, if both have a row.
 fn put_dash_to(
     text: &mut Vec<u8>,
     frame: &Frame,
@@ -490,7 +482,13 @@ fn put_dash_to(
         ++ dash_to frame.now caller.now notice.now) }
 {
     match caller {
-        Caller::Process(caller) => put_dash(text, frame, *caller, notice),
+        Caller::Process(caller) => {
+            if frame.has_row(*caller) && frame.has_row(notice_process(notice)) {
+                put_dash(text, frame, *caller, notice)
+            } else {
+                Ok(())
+            }
+        }
         Caller::Init | Caller::Nobody => Ok(()),
     }
 }
@@ -540,6 +538,17 @@ fn put_wedge(text: &mut Vec<u8>, frame: &Frame, notice: &Notice) -> Result<(), A
     )
 }
 
+/// Puts the mark of a notice, if its process has a row.
+fn put_wedge_at(text: &mut Vec<u8>, frame: &Frame, notice: &Notice) -> Result<(), AllocError>
+    ensures { OnOk result (text.new.items ≡ text.old.items ++ wedge_at frame.now notice.now) }
+{
+    if frame.has_row(notice_process(notice)) {
+        put_wedge(text, frame, notice)
+    } else {
+        Ok(())
+    }
+}
+
 /// Puts the lines from the caller's ring to the wedges of the notices.
 fn put_dashes(text: &mut Vec<u8>, frame: &Frame, entry: &LentEntry<'_>) -> Result<(), AllocError>
     ensures { OnOk result (text.new.items ≡ text.old.items
@@ -554,10 +563,10 @@ fn put_dashes(text: &mut Vec<u8>, frame: &Frame, entry: &LentEntry<'_>) -> Resul
 /// Puts the wedges of the notices.
 fn put_wedges(text: &mut Vec<u8>, frame: &Frame, entry: &LentEntry<'_>) -> Result<(), AllocError>
     ensures { OnOk result (text.new.items ≡ text.old.items
-        ++ flat_map (wedge_text frame.now) entry.entry.now.notices) }
+        ++ flat_map (wedge_at frame.now) entry.entry.now.notices) }
 {
     for notice in entry.notices {
-        put_wedge(text, frame, notice)?;
+        put_wedge_at(text, frame, notice)?;
     }
     Ok(())
 }
@@ -576,7 +585,7 @@ fn put_marks(
         ++ marks_text table.now frame.now entry.entry.now moment.now) }
 {
     put_time(text, frame, entry)?;
-    put_call(text, table, frame, entry)?;
+    put_call_at(text, table, frame, entry)?;
     put_cells(text, table, frame, frame.width_of(entry.number), moment)?;
     put_dashes(text, frame, entry)?;
     put_ring(text, table, frame, entry)?;
@@ -622,112 +631,4 @@ pub(crate) fn put_column(
     put_start(text, frame, entry.number)?;
     put_marks(text, table, frame, entry, moment)?;
     put_column_end(text)
-}
-
-/// Puts the mark of a departure behind the last column.
-fn put_mark(text: &mut Vec<u8>, frame: &Frame, mark: &Mark) -> Result<(), AllocError>
-    ensures { OnOk result (text.new.items ≡ text.old.items ++ mark_text frame.now mark.now) }
-{
-    put_all(
-        text,
-        &[
-            Part::Plain("<g class='departure' transform='translate("),
-            Part::Number(frame.behind()),
-            Part::Plain(",0)'>\n<line class='departs' y1='"),
-            Part::Number(u64::from(frame.top)),
-            Part::Plain("' y2='"),
-            Part::Number(u64::from(frame.bottom) + 14),
-            Part::Plain("'/><text class='departs' x='6' y='"),
-            Part::Number(u64::from(frame.top) + 13),
-            Part::Plain("'>expected: "),
-            Part::Xml(mark.expected.as_slice()),
-            Part::Plain("</text><text class='departs' x='6' y='"),
-            Part::Number(u64::from(frame.top) + 28),
-            Part::Plain("'>given: "),
-            Part::Xml(mark.given.as_slice()),
-            Part::Plain("</text>\n</g>\n"),
-        ],
-    )
-}
-
-/// Puts the mark of a departure, if there is one.
-fn put_mark_part(text: &mut Vec<u8>, frame: &Frame) -> Result<(), AllocError>
-    ensures { OnOk result (text.new.items ≡ text.old.items ++ mark_part frame.now frame.now.mark) }
-{
-    match &frame.mark {
-        Some(mark) => put_mark(text, frame, mark),
-        None => Ok(()),
-    }
-}
-
-/// Puts the head of the group of the labels.
-fn put_white(text: &mut Vec<u8>, frame: &Frame) -> Result<(), AllocError>
-    ensures { OnOk result (text.new.items ≡ text.old.items ++ white_text frame.now) }
-{
-    put_all(
-        text,
-        &[
-            Part::Plain("<g id='labels'>\n<rect width='"),
-            Part::Number(u64::from(frame.left)),
-            Part::Plain("' height='100%' fill='#fff'/>\n"),
-        ],
-    )
-}
-
-/// Puts the key.
-fn put_key(text: &mut Vec<u8>, frame: &Frame) -> Result<(), AllocError>
-    ensures { OnOk result (text.new.items ≡ text.old.items ++ key_text frame.now) }
-{
-    put_all(
-        text,
-        &[
-            Part::Plain("<g transform='translate(0,"),
-            Part::Number(u64::from(frame.foot)),
-            Part::Plain(")'>"),
-            Part::Plain(frame.key),
-        ],
-    )
-}
-
-/// Puts what a picture shows, of which more was asked for.
-fn put_excerpt(text: &mut Vec<u8>, excerpt: &Excerpt) -> Result<(), AllocError>
-    ensures { OnOk result (text.new.items ≡ text.old.items ++ excerpt_text excerpt.now) }
-{
-    put_all(
-        text,
-        &[
-            Part::Plain("<text x='785' y='9'>entries "),
-            Part::Number(u64::from(excerpt.first)),
-            Part::Plain(" to "),
-            Part::Number(u64::from(excerpt.last)),
-            Part::Plain(" of "),
-            Part::Number(excerpt.entries as u64),
-            Part::Plain("</text>"),
-        ],
-    )
-}
-
-/// Puts the note of what a picture shows, if more was asked for.
-fn put_note(text: &mut Vec<u8>, excerpt: &Option<Excerpt>) -> Result<(), AllocError>
-    ensures { OnOk result (text.new.items ≡ text.old.items ++ note_text excerpt.now) }
-{
-    match excerpt {
-        Some(excerpt) => put_excerpt(text, excerpt),
-        None => Ok(()),
-    }
-}
-
-/// Puts what comes after the columns: the mark of a departure, the headings of the cores, the labels of
-/// the rows, and the key, with the note behind it.
-#[tactic(auto, using(std::proofs::Common::append_assoc))]
-pub(crate) fn put_foot(text: &mut Vec<u8>, table: &Table, frame: &Frame) -> Result<(), AllocError>
-    ensures { OnOk result (text.new.items ≡ text.old.items ++ foot_text table.now frame.now) }
-{
-    put_mark_part(text, frame)?;
-    put_white(text, frame)?;
-    put_headings(text, table, frame)?;
-    put_labels(text, table, frame)?;
-    put_key(text, frame)?;
-    put_note(text, &frame.excerpt)?;
-    put(text, frame.end)
 }

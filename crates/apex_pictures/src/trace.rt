@@ -1,36 +1,41 @@
 //! A picture as a trace in the Trace Event Format, which is JSON: tracks of the cores, of the
-//! processes and of the mutexes, and counters of the other objects. A tick is 1,000 units of the axis; times are hundredths
-//! of a unit, and the partition's time is an argument too.
+//! processes and of the mutexes, and counters of the other objects. The calls and the arrows are in
+//! modules of their own. The axis has microseconds, and times are nanoseconds; the partition's time is
+//! an argument too.
 ghost use Rattle.std.specs.Prelude.{◌≡◌, ◌+◌, ◌*◌, ◌≤◌, ◌++◌, [], flat_map, is_some, length, map, OnOk};
 ghost use Rattle.arrayvec.specs.ArrayVec.{array_vec_len};
 ghost use Rattle.apex_machine.specs.text.Listing.{texts_of};
-ghost use Rattle.apex_types.specs.declared.limits.TheConstants.{MOST_CORES, MOST_OBJECTS, MOST_PROCESSES};
+ghost use Rattle.apex_types.specs.declared.limits.TheConstants.{MOST_CORES, MOST_NOTICES, MOST_OBJECTS, MOST_PROCESSES};
+ghost use Rattle.apex_calls.specs.Lines.{IsPrintable};
 ghost use Rattle.apex_pictures.specs.Counts.{HasCounts};
 ghost use Rattle.apex_pictures.specs.Moments.{moment_in, none_shown, running_in, with_cells, with_running};
 ghost use Rattle.apex_pictures.specs.Places.{of_places};
 ghost use Rattle.apex_pictures.specs.Stamps.{IsStamp, Stamps};
 ghost use Rattle.apex_pictures.specs.Trace as trace;
-ghost use Rattle.apex_pictures.specs.declared.pieces.TheConstants.{PIECE_ROOM, TRACK};
+ghost use Rattle.apex_pictures.specs.declared.pieces.TheConstants.{ARROW, CALL, MARK, PIECE_ROOM, TRACK};
 ghost use Rattle.apex_pictures.specs.declared.trace.TheConstants.{BEGIN, END, MARK_DETAIL, MARK_WORD, NAME};
 ghost use Rattle.apex_pictures.specs.Beings.{is_begun};
 ghost use Rattle.apex_pictures.specs.declared.beings.TheConstants.{BEING_ROOM};
 ghost use Rattle.apex_pictures.specs.Tracks.{bare, bare_cells, cell_on, track_of};
 
+use crate::arrows::{add_heads, add_tails};
 use crate::beings::{BEING_ROOM, Being, add_being_name, is_begun, is_same_being};
+use crate::calls::{Said, Span};
 use crate::counters::put_first_counts;
 use crate::moments::{CORES, running_at};
 use crate::mutexes::{add_mutex_ends, put_mutex_names};
-use crate::pieces::{DIGITS, Piece, TRACK, add, add_bytes, add_number, add_text};
-use crate::stamps::{BEGIN_ROOM, FRONT, Stamp, TIMED, add_begin_front, add_end_front};
+use crate::pieces::{
+    ARROW, CALL, DIGITS, MARK, Piece, TRACK, add, add_bytes, add_escaped, add_number, add_text,
+};
+use crate::stamps::{BEGIN_ROOM, FRONT, Stamp, TIMED, Timed, add_begin_front, add_end_front};
 use crate::texts::{Part, put, put_all};
 use crate::tracks::{Tracks, is_still, track_at, track_by};
 use crate::words::{code_word, deadline_word, id_part, name_of};
 use apex_dispatch::Kernel;
-use apex_json::{MOST_ESCAPE, add_json};
+use apex_json::MOST_ESCAPE;
 use apex_store::Store;
 use apex_table::Table;
-use apex_types::{CoreId, LentEntry, MOST_NAME, MutexId, Notice, ProcessId};
-use arrayvec::ArrayVec;
+use apex_types::{CoreId, LentEntry, MOST_NAME, MOST_NOTICES, MutexId, Notice, ProcessId};
 use std::alloc::AllocError;
 
 /// The place of a slice or a mark in a trace: its group, its track and its time.
@@ -39,7 +44,7 @@ pub(crate) struct Spot {
     /// 1 of the cores, 2 of the processes, 3 of the objects.
     group: u8,
     track: u32,
-    /// In hundredths of a unit.
+    /// In nanoseconds.
     time: u64,
 }
 
@@ -111,7 +116,7 @@ fn put_opening(text: &mut Vec<u8>) -> Result<(), AllocError>
 {
     put(
         text,
-        "{\"displayTimeUnit\":\"ms\",\"otherData\":{\"program\":\"apex\"},\"traceEvents\":[\n{\"ph\":\"M\",\"pid\":1,\"name\":\"process_name\",\"args\":{\"name\":\"cores\"}},\n{\"ph\":\"M\",\"pid\":2,\"name\":\"process_name\",\"args\":{\"name\":\"processes\"}},\n{\"ph\":\"M\",\"pid\":3,\"name\":\"process_name\",\"args\":{\"name\":\"objects\"}}",
+        "{\"displayTimeUnit\":\"ms\",\"otherData\":{\"program\":\"apex\"},\"traceEvents\":[\n{\"ph\":\"M\",\"pid\":1,\"name\":\"process_name\",\"args\":{\"name\":\"cores\"}},\n{\"ph\":\"M\",\"pid\":2,\"name\":\"process_name\",\"args\":{\"name\":\"processes\"}},\n{\"ph\":\"M\",\"pid\":3,\"name\":\"process_name\",\"args\":{\"name\":\"objects\"}},\n{\"ph\":\"M\",\"pid\":4,\"name\":\"process_name\",\"args\":{\"name\":\"partition\"}},\n{\"ph\":\"M\",\"pid\":4,\"tid\":1,\"name\":\"thread_name\",\"args\":{\"name\":\"init\"}},\n{\"ph\":\"M\",\"pid\":4,\"tid\":1,\"name\":\"thread_sort_index\",\"args\":{\"sort_index\":1}},\n{\"ph\":\"M\",\"pid\":4,\"tid\":2,\"name\":\"thread_name\",\"args\":{\"name\":\"ticks\"}},\n{\"ph\":\"M\",\"pid\":4,\"tid\":2,\"name\":\"thread_sort_index\",\"args\":{\"sort_index\":2}}",
     )
 }
 
@@ -137,9 +142,6 @@ pub(crate) const BEGIN: usize = FRONT + DIGITS + BEGIN_ROOM;
 /// The most bytes of the name of a slice and of what is behind it: the number of a process, and its
 /// name, of which JSON escapes each byte at the most.
 pub(crate) const NAME: usize = DIGITS + 1 + MOST_ESCAPE * MOST_NAME + 2;
-
-/// The most bytes of a mark: the front, the number of its track, the time and the two words.
-const MARK: usize = 35 + DIGITS + BEGIN_ROOM + MARK_WORD + MARK_DETAIL + 2;
 
 /// The most bytes of the word of a mark, with the space behind it.
 const MARK_WORD: usize = 8;
@@ -184,7 +186,7 @@ fn add_run_name(piece: &mut Piece, table: &Table, process: ProcessId)
 {
     add_number(piece, u64::from(process.number()));
     add_text(piece, *b" ");
-    add_json(piece, name_of(table, process));
+    add_escaped(piece, name_of(table, process));
     add_text(piece, *b"\"}");
 }
 
@@ -491,54 +493,50 @@ fn add_ends(piece: &mut Piece, table: &Table, time: u64, stamp: &Stamp, last: &[
     }
 }
 
-/// Puts the mark of a notice on the track of a process, by the two words of its name.
+/// Adds the mark of a notice on the track of a process, by the two words of its name.
+#[inline(always)]
 #[tactic(auto, using(std::proofs::Common::append_assoc))]
-fn put_mark(
-    text: &mut Vec<u8>,
+fn add_mark(
+    piece: &mut Piece,
     time: u64,
     stamp: &Stamp,
     process: ProcessId,
     word: &str,
     detail: &str,
-) -> Result<(), AllocError>
+)
     requires stamp { IsStamp stamp.now time }
     requires word { length word.now ≤ MARK_WORD }
     requires detail { length detail.now ≤ MARK_DETAIL }
-    ensures { OnOk result (text.new.items ≡ text.old.items
-        ++ trace.mark_text time stamp.now.ticks process word.now detail.now) }
+    requires room { array_vec_len piece.old + MARK ≤ PIECE_ROOM }
+    ensures text { piece.new.items ≡ piece.old.items
+        ++ trace.mark_text time stamp.now.ticks process word.now detail.now }
+    ensures short { array_vec_len piece.new ≤ array_vec_len piece.old + MARK }
 {
-    let mut mark: ArrayVec<u8, MARK> = ArrayVec::new();
-    add_text(
-        &mut mark,
-        *b",\n{\"ph\":\"i\",\"s\":\"t\",\"pid\":2,\"tid\":",
-    );
-    add_number(&mut mark, u64::from(process.number()));
-    add_bytes(&mut mark, stamp.begin());
-    add(&mut mark, word);
-    add(&mut mark, detail);
-    add_text(&mut mark, *b"\"}");
-    text.extend_from_slice(mark.as_slice())
+    add_text(piece, *b",\n{\"ph\":\"i\",\"s\":\"t\",\"pid\":2,\"tid\":");
+    add_number(piece, u64::from(process.number()));
+    add_bytes(piece, stamp.begin());
+    add(piece, word);
+    add(piece, detail);
+    add_text(piece, *b"\"}");
 }
 
-/// Puts the mark of a notice: its word, and the code or the type of the deadline.
-fn put_marked(
-    text: &mut Vec<u8>,
-    time: u64,
-    stamp: &Stamp,
-    notice: &Notice,
-) -> Result<(), AllocError>
-    requires { IsStamp stamp.now time }
-    ensures { OnOk result (text.new.items ≡ text.old.items
-        ++ trace.marked_text time stamp.now.ticks notice.now) }
+/// Adds the mark of a notice: its word, and the code or the type of the deadline.
+#[inline(always)]
+fn add_marked(piece: &mut Piece, time: u64, stamp: &Stamp, notice: &Notice)
+    requires stamp { IsStamp stamp.now time }
+    requires room { array_vec_len piece.old + MARK ≤ PIECE_ROOM }
+    ensures text { piece.new.items ≡ piece.old.items
+        ++ trace.marked_text time stamp.now.ticks notice.now }
+    ensures short { array_vec_len piece.new ≤ array_vec_len piece.old + MARK }
 {
     match notice {
         Notice::Woken(process, code) => {
-            put_mark(text, time, stamp, *process, "woken ", code_word(*code))
+            add_mark(piece, time, stamp, *process, "woken ", code_word(*code))
         }
-        Notice::Released(process) => put_mark(text, time, stamp, *process, "released", ""),
+        Notice::Released(process) => add_mark(piece, time, stamp, *process, "released", ""),
         Notice::Missed(process, deadline) => {
-            put_mark(
-                text,
+            add_mark(
+                piece,
                 time,
                 stamp,
                 *process,
@@ -549,47 +547,95 @@ fn put_marked(
     }
 }
 
-fn put_marks(
-    text: &mut Vec<u8>,
-    time: u64,
-    stamp: &Stamp,
-    notices: &[Notice],
-) -> Result<(), AllocError>
-    requires { IsStamp stamp.now time }
-    ensures { OnOk result (text.new.items ≡ text.old.items
-        ++ flat_map (trace.marked_text time stamp.now.ticks) notices.now) }
+/// Adds the marks of all notices of an entry.
+#[inline(always)]
+fn add_marks(piece: &mut Piece, time: u64, stamp: &Stamp, notices: &[Notice])
+    requires stamp { IsStamp stamp.now time }
+    requires few { length notices.now ≤ MOST_NOTICES }
+    requires room { array_vec_len piece.old + MARK * MOST_NOTICES ≤ PIECE_ROOM }
+    ensures text { piece.new.items ≡ piece.old.items
+        ++ flat_map (trace.marked_text time stamp.now.ticks) notices.now }
+    ensures short { array_vec_len piece.new ≤ array_vec_len piece.old + MARK * MOST_NOTICES }
 {
     for notice in notices {
-        put_marked(text, time, stamp, notice)?;
+        add_marked(piece, time, stamp, notice);
     }
-    Ok(())
 }
 
-/// Puts the changes by the latest entry on the tracks and of the counters, and the marks of its
-/// notices, at this time. `shown` are the tracks before it, and then those after it.
+/// Adds the slice of an entry, and the beginnings of its arrows.
+#[inline(always)]
 #[tactic(auto, using(std::proofs::Common::append_assoc))]
+pub(crate) fn add_call<S: Store>(
+    piece: &mut Piece,
+    said: &mut Said,
+    table: &Table,
+    store: &S,
+    span: Span,
+    begun: &Timed,
+    entry: &LentEntry<'_>,
+)
+    requires printable { IsPrintable table.now entry.now }
+    requires begun { begun.now ≡ span.begin }
+    requires room { array_vec_len piece.old + CALL + ARROW * MOST_NOTICES ≤ PIECE_ROOM }
+    ensures text { piece.new.items ≡ piece.old.items ++ trace.call_text table.now span
+        entry.entry.now (with_cells (bare_cells (S.roster store.now))) }
+    ensures short { array_vec_len piece.new
+        ≤ array_vec_len piece.old + CALL + ARROW * MOST_NOTICES }
+{
+    said.add_call(piece, table, span, begun, entry);
+    add_tails(
+        piece,
+        store,
+        begun,
+        &entry.process,
+        entry.number,
+        entry.notices,
+    );
+}
+
+/// Adds the marks of an entry's notices, and the ends of its arrows.
+#[inline(always)]
+#[tactic(auto, using(std::proofs::Common::append_assoc))]
+pub(crate) fn add_notices<S: Store>(
+    piece: &mut Piece,
+    store: &S,
+    time: u64,
+    stamp: &Stamp,
+    entry: &LentEntry<'_>,
+)
+    requires stamp { IsStamp stamp.now time }
+    requires ticks { stamp.now.ticks ≡ entry.now.now }
+    requires room { array_vec_len piece.old + (MARK + ARROW) * MOST_NOTICES ≤ PIECE_ROOM }
+    ensures text { piece.new.items ≡ piece.old.items ++ trace.notices_text time entry.entry.now
+        (with_cells (bare_cells (S.roster store.now))) }
+{
+    add_marks(piece, time, stamp, entry.notices);
+    add_heads(piece, store, time, stamp, entry.number, entry.notices);
+}
+
+/// Puts the column of the latest entry: its call, the changes by it on the tracks and of the counters,
+/// and its notices. `shown` are the tracks before it, and then those after it.
 pub(crate) fn put_column<S: Store>(
     text: &mut Vec<u8>,
     kernel: &Kernel<S>,
-    time: u64,
+    span: Span,
     entry: &LentEntry<'_>,
     shown: &mut Tracks,
 ) -> Result<(), AllocError>
+    requires printable { IsPrintable kernel.now.table entry.now }
     requires many { length shown.old.cells ≡ length kernel.now.machine.roster.records }
     requires counts { HasCounts shown.old.counts kernel.now.table }
     requires cores { length shown.old.running ≡ MOST_CORES }
     ensures text { OnOk result (text.new.items ≡ text.old.items
-        ++ trace.column_text kernel.now.table time shown.old entry.entry.now
+        ++ trace.column_text kernel.now.table span shown.old entry.entry.now
         (bare (moment_in kernel.now.table kernel.now.machine))) }
     ensures shown { OnOk result (shown.new
         ≡ bare (moment_in kernel.now.table kernel.now.machine)) }
 {
     kernel.holds();
     let table = kernel.table();
-    let stamp = Stamp::new(time, entry.now);
     let objects = kernel.situation().objects();
-    shown.put_changes(text, table, objects, kernel.store(), time, &stamp)?;
-    put_marks(text, time, &stamp, entry.notices)
+    shown.put_column(text, table, objects, kernel.store(), span, entry)
 }
 
 /// Adds the ends of all slices.

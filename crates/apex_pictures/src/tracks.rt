@@ -1,25 +1,28 @@
 //! The processes and the counts after an entry, as a trace shows them.
 ghost use Rattle.std.specs.Prelude.{◌≡◌, ◌<◌, ◌≤◌, ◌++◌, IsTrue, length, map, slice_index_or, OnOk};
 ghost use Rattle.apex_types.specs.declared.limits.TheConstants.{MOST_CORES, MOST_PROCESSES};
+ghost use Rattle.apex_calls.specs.Lines.{IsPrintable};
 ghost use Rattle.apex_machine.specs.processes.Roster.{record_at};
 ghost use Rattle.apex_pictures.specs.Counts.{HasCounts, counts_of};
 ghost use Rattle.apex_pictures.specs.Moments.{moment_of, running_in};
 ghost use Rattle.apex_pictures.specs.Stamps.{IsStamp};
-ghost use Rattle.apex_pictures.specs.Trace.{changes_text, objects_text};
+ghost use Rattle.apex_pictures.specs.Trace.{column_text};
 ghost use Rattle.apex_pictures.specs.Tracks.{bare, cell_on, track_of};
 ghost use Rattle.apex_pictures.specs.declared.beings.Being.TheVariants.{Dormant};
 
 use crate::beings::{Being, being_of, is_awaiting};
+use crate::calls::{Said, Span};
 use crate::counts::Counts;
 use crate::moments::{CORES, is_process, running_at, running_of, state_of};
 use crate::pieces::Piece;
-use crate::stamps::Stamp;
-use crate::trace::{add_processes, add_runs};
+use crate::stamps::{Stamp, Timed};
+use crate::texts::put_bytes;
+use crate::trace::{add_call, add_notices, add_processes, add_runs};
 use apex_dispatch::Objects;
 use apex_machine::Record;
 use apex_store::Store;
 use apex_table::Table;
-use apex_types::{MOST_CORES, MOST_PROCESSES, ProcessId, State};
+use apex_types::{LentEntry, MOST_CORES, MOST_PROCESSES, ProcessId, State};
 use arrayvec::ArrayVec;
 use std::alloc::AllocError;
 use std::marker::Model;
@@ -33,8 +36,11 @@ pub(crate) struct Tracks {
     tracks: ArrayVec<Being, MOST_PROCESSES>,
     running: ArrayVec<Option<ProcessId>, CORES>,
     counts: Counts,
-    /// The changes by an entry, before they are put.
+    /// The column of an entry, before it is put.
     piece: Piece,
+    said: Said,
+    /// The time after the latest column.
+    latest: Timed,
 }
 
 impl Model for Tracks {
@@ -113,6 +119,8 @@ pub(crate) fn tracks_of<S: Store>(store: &S, counts: Counts) -> Tracks
         running,
         counts,
         piece: Piece::new(),
+        said: Said::new(),
+        latest: Timed::new(0),
     }
 }
 
@@ -129,38 +137,51 @@ pub(crate) fn track_at(tracks: &[Being], place: usize) -> Being
 
 impl Tracks {
     /// Brings the tracks and the counts up to the processes of a store and these objects, and puts
-    /// the changes on the tracks and of the counters.
+    /// the column of the latest entry.
     #[tactic(auto, using(std::proofs::Common::append_assoc))]
-    pub(crate) fn put_changes<S: Store>(
+    pub(crate) fn put_column<S: Store>(
         &mut self,
         text: &mut Vec<u8>,
         table: &Table,
         objects: &Objects,
         store: &S,
-        time: u64,
-        stamp: &Stamp,
+        span: Span,
+        entry: &LentEntry<'_>,
     ) -> Result<(), AllocError>
-        requires stamp { IsStamp stamp.now time }
+        requires printable { IsPrintable table.now entry.now }
         requires counts { HasCounts self.old.counts table.now }
         requires cores { length self.old.running ≡ MOST_CORES }
         requires tracks { length self.old.cells ≡ length (S.roster store.now).records }
         requires table { length table.now.processes ≡ length (S.roster store.now).records }
         ensures text { OnOk result (text.new.items ≡ text.old.items
-            ++ (changes_text table.now time stamp.now.ticks self.old
-            (bare (moment_of (S.roster store.now) self.old.counts))
-            ++ objects_text table.now time stamp.now.ticks self.old.counts
-            (counts_of table.now (S.roster store.now) objects.now))) }
+            ++ column_text table.now span self.old entry.entry.now
+            (bare (moment_of (S.roster store.now)
+            (counts_of table.now (S.roster store.now) objects.now)))) }
         ensures shown { self.new ≡ bare (moment_of (S.roster store.now)
             (counts_of table.now (S.roster store.now) objects.now)) }
     {
+        let time = span.end;
+        let stamp = Stamp::new(time, entry.now);
+        self.latest.reach(span.begin);
         self.piece.clear();
+        add_call(
+            &mut self.piece,
+            &mut self.said,
+            table,
+            store,
+            span,
+            &self.latest,
+            entry,
+        );
         let running = self.running.as_mut_slice();
-        add_runs(&mut self.piece, table, store, time, stamp, running);
+        add_runs(&mut self.piece, table, store, time, &stamp, running);
         let (running, tracks) = (self.running.as_slice(), self.tracks.as_mut_slice());
-        add_processes(&mut self.piece, table, store, running, time, stamp, tracks);
+        add_processes(&mut self.piece, table, store, running, time, &stamp, tracks);
         self.counts
-            .add_changes(&mut self.piece, table, objects, store, time, stamp);
-        text.extend_from_slice(self.piece.as_slice())
+            .add_changes(&mut self.piece, table, objects, store, time, &stamp);
+        add_notices(&mut self.piece, store, time, &stamp, entry);
+        self.latest = stamp.into_time();
+        put_bytes(text, self.piece.as_slice())
     }
 
     /// The tracks of the processes.

@@ -1,5 +1,5 @@
 -- The search for a state over the cells of the index.
-use Rattle.std.proofs.Common.{◌≡◌, ◌≢◌, ℕ, zero, suc, ◌+◌, ◌-◌, ◌*◌, ◌/◌, ◌^◌, ◌<◌, ◌≤◌, ◌⊎◌, List, [], ◌∷◌, ◌++◌, length, map, replicate, Some, None, Option, refl, sym, ap, ◌∙◌, subst, arith, add-one, inl, inr, length-append, slice_index_or}
+use Rattle.std.proofs.Common.{◌≡◌, ◌≢◌, ℕ, zero, suc, ◌+◌, ◌-◌, ◌*◌, ◌/◌, ◌^◌, ◌<◌, ◌≤◌, ◌⊎◌, List, [], ◌∷◌, ◌++◌, drop, length, map, replicate, Some, None, Option, refl, sym, ap, ◌∙◌, subst, arith, add-one, inl, inr, length-append, slice_index_or}
 use Rattle.std.proofs.lemmas.Bool.{cases_lt, lt-ltb, le-ltb}
 use Rattle.std.proofs.lemmas.Option.{same_Some, slice_get-map, slice_get_read}
 use Rattle.std.proofs.lemmas.List.{length-map}
@@ -7,7 +7,7 @@ use Rattle.std.proofs.lemmas.Nat.{mul-le}
 use Rattle.std.specs.List.{fold, slice_get, slice_set}
 use Rattle.std.specs.Option.{option_map}
 use Rattle.apex_states.specs.declared.index.Slot.{Slot}
-use Rattle.apex_states.specs.Index.{after, cell_after, home_of, mixed, place_in, taken_in, IsFound, IsIndexed, IsKnown, IsOther, IsVacant}
+use Rattle.apex_states.specs.Index.{after, cell_after, hash_of, hashed, home_of, mixed, place_in, taken_in, IsFound, IsIndexed, IsKnown, IsOther, IsVacant}
 
 -- How many cells are taken.
 
@@ -79,9 +79,16 @@ after_onto size slot cell below within =
           (cell - slot, omega arith, rw (lt-ltb (cell - slot) (size - slot) short) (omega arith))
     ]
 
-pub hash_below : (k : List ℕ) (hash : ℕ) → hash < 2 ^ 64 → fold mixed hash k < 2 ^ 64
-hash_below [] hash below = below
-hash_below (word ∷ k) hash below = hash_below k (mixed hash word) (omega arith)
+pub fold_below : (k : List ℕ) (hash : ℕ) → hash < 2 ^ 64 → fold mixed hash k < 2 ^ 64
+fold_below [] hash below = below
+fold_below (word ∷ k) hash below = fold_below k (mixed hash word) (omega arith)
+
+pub fours_below : (words : List ℕ) (fours : ℕ) → hashed words fours < 2 ^ 64
+fours_below words zero = omega arith
+fours_below words (suc fours) = omega arith
+
+pub hash_below : (words : List ℕ) → hash_of words < 2 ^ 64
+hash_below words = fold_below (drop (4 * (length words / 4)) words) (hashed words (length words / 4)) (fours_below words (length words / 4))
 
 -- a part of the slots
 pub share_below : (hash size : ℕ) → hash < 2 ^ 64 → 0 < size → hash * size / 2 ^ 64 < size
@@ -91,7 +98,7 @@ share_below hash size below positive =
 
 pub home_below : (size : ℕ) (k : List ℕ) → 0 < size → home_of size k < size
 unfolding home_of
-home_below size k positive = share_below (fold mixed 0 k) size (hash_below k 0 (omega arith)) positive
+home_below size k positive = share_below (hash_of k) size (hash_below k) positive
 
 pub slot_below : (size home steps slot : ℕ) (k : List ℕ) → 0 < size → home ≡ home_of size k → steps < size → slot ≡ after size home steps → slot < size
 slot_below size home steps slot k positive home_is short slot_is =

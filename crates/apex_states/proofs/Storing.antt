@@ -86,8 +86,8 @@ pub IsStored-start : (width part room size : ℕ) (roots : Packed) (nodes : Node
     → nodes ≡ no_nodes part 64
     → origins ≡ []
     → room ≤ capacity
-    → length words ≡ 16 * part
-    → width ≤ 16 * part
+    → length words ≡ 8 * part
+    → width ≤ 8 * part
     → IsStored width roots nodes origins capacity words
 IsStored-start width part room size roots nodes origins capacity words roots_is nodes_is origins_is reserved long wide = rw (roots_is, nodes_is, origins_is) (record {
   one = refl;

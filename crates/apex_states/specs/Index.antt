@@ -1,5 +1,5 @@
 -- The index of the states: a list of cells, each with the place of a state or none.
-use Rattle.std.specs.Prelude.{◌≡◌, ◌≢◌, ℕ, ◌+◌, ◌-◌, ◌*◌, ◌/◌, ◌%◌, ◌^◌, ◌<◌, ◌==◌, nat_lt, if◌then◌else◌, bit_xor, suc, List, [], ◌∷◌, length, map, slice_get, Option, Some, None}
+use Rattle.std.specs.Prelude.{◌≡◌, ◌≢◌, ℕ, ◌+◌, ◌-◌, ◌*◌, ◌/◌, ◌%◌, ◌^◌, ◌<◌, ◌==◌, nat_lt, if◌then◌else◌, bit_xor, zero, suc, get_or, List, [], ◌∷◌, drop, length, map, slice_get, Option, Some, None}
 use Rattle.std.specs.List.{fold}
 use Rattle.apex_states.specs.declared.index.Found.{Found}
 use Rattle.apex_states.specs.declared.index.Found.TheVariants.{At, Nowhere}
@@ -19,10 +19,25 @@ cells_of index = map place_in index.slots.items
 abbrev pub mixed : ℕ → ℕ → ℕ
 mixed hash word = (bit_xor hash word * FACTOR) % 2 ^ 64
 
+-- the hash of the four words from this place on
+abbrev pub hashed_four : List ℕ → ℕ → ℕ
+hashed_four words place =
+    mixed (mixed (mixed (get_or words place 0) (get_or words (place + 1) 0)) (get_or words (place + 2) 0))
+    (get_or words (place + 3) 0)
+
+-- the hash of this many times four words
+abbrev pub hashed : List ℕ → ℕ → ℕ
+hashed words zero = 0
+hashed words (suc fours) = mixed (hashed words fours) (hashed_four words (4 * fours))
+
+-- the hash of all words: they are taken by fours, and then those that are left
+abbrev pub hash_of : List ℕ → ℕ
+hash_of words = fold mixed (hashed words (length words / 4)) (drop (4 * (length words / 4)) words)
+
 -- the slot at which the search for a state begins: the hash is a part of 2 ^ 64, and the slot the same
 -- part of all slots
 unfoldable pub home_of : ℕ → List ℕ → ℕ
-home_of size words = fold mixed 0 words * size / 2 ^ 64
+home_of size words = hash_of words * size / 2 ^ 64
 
 -- the slot a number of steps after this one; after the last slot comes the first
 abbrev pub after : ℕ → ℕ → ℕ → ℕ

@@ -10,7 +10,7 @@ use std::alloc::{AllocError, Global};
 use std::marker::Model;
 
 /// The number of slots for states that were found a short time before.
-const SLOTS: usize = 4096;
+const SLOTS: usize = 16384;
 
 /// States in the order in which they were found, and the origin of each. One can be there more than
 /// once, but seldom is if it was found a short time before.

@@ -1,6 +1,6 @@
 //! Which rows are there already: their places, by a hash of their words.
 ghost use Rattle.std.specs.Prelude.{◌≡◌, ◌<◌, ◌+◌, ◌*◌, length, replicate, None, Some, slice_set, IfOk};
-ghost use Rattle.apex_states.specs.Index.{after, cells_of, home_of, mixed, place_in, IsFoundAmong, IsIndexed};
+ghost use Rattle.apex_states.specs.Index.{after, cells_of, hashed_four, home_of, mixed, place_in, IsFoundAmong, IsIndexed};
 
 use crate::rows::Rows;
 use std::alloc::{AllocError, Global};
@@ -53,6 +53,18 @@ fn mix(hash: u64, word: u64) -> u64
     (hash ^ word).wrapping_mul(FACTOR)
 }
 
+/// The hash of the four words from the place on. It does not depend on the words before, so a processor
+/// computes several at once.
+fn hash_four(row: &[u64], place: usize) -> u64
+    requires { place + 3 < length row.now }
+    ensures { result ≡ hashed_four row.now place }
+{
+    mix(
+        mix(mix(row[place], row[place + 1]), row[place + 2]),
+        row[place + 3],
+    )
+}
+
 /// The slot at which the search for a row begins. It is as far among the slots as the hash is among
 /// the words, so that the highest bits decide, on which all others have an effect.
 #[tactic(auto, unfolding(crate::specs::Index::home_of))]
@@ -60,7 +72,14 @@ pub(crate) fn home(row: &[u64], size: usize) -> usize
     requires { 0 < size }
     ensures { result ≡ home_of size row.now }
 {
-    let hash = row.iter().fold(0, |hash, word| mix(hash, *word));
+    let fours = row.len() / 4;
+    let mut hash = 0;
+    for at in 0..fours {
+        hash = mix(hash, hash_four(row, 4 * at));
+    }
+    let hash = row[4 * fours..]
+        .iter()
+        .fold(hash, |hash, word| mix(hash, *word));
     (u128::from(hash) * size as u128 / 0x1_0000_0000_0000_0000) as usize
 }
 

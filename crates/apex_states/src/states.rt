@@ -10,10 +10,10 @@ use std::alloc::{AllocError, Global};
 use std::marker::Model;
 
 /// How many pairs lie above a part in each half of a state.
-const DEPTH: u32 = 3;
+const DEPTH: u32 = 2;
 
 /// The parts of a state: 2 ^ `DEPTH` in each half.
-const PARTS: usize = 16;
+const PARTS: usize = 8;
 
 /// Puts these words in place of the first ones.
 fn put_front(words: &mut [u64], front: &[u64])

@@ -38,6 +38,7 @@ run_is : (answer : Answer) (made : GivenRun) → IsRunTo answer made → outcome
 run_is answer (run_in.Picture plan) is = sym (ap outcome_of is)
 run_is answer (run_in.Listing listing run) is = sym (ap outcome_of is)
 run_is answer (run_in.Empty window run) is = sym (ap outcome_of is)
+run_is answer (run_in.Lacking name run) is = sym (ap outcome_of is)
 
 pub outcome_is : (answer : Answer) (given : Given) → IsGivenTo answer given → outcome_in (Ok given) ≡ outcome_of answer
 outcome_is answer given (none, is) = ap (λ (d : Option DepartureIn). outcome_of_run d given.made) none ∙ run_is answer given.made is
@@ -71,6 +72,7 @@ module _ {left : Option (List ℕ)} {failed : ℕ} where
     gives_made (run_in.Picture plan) is = gives_run _ _ _ is
     gives_made (run_in.Listing listing run) is = gives_run _ _ _ is
     gives_made (run_in.Empty window run) is = gives_run _ _ _ is
+    gives_made (run_in.Lacking name run) is = gives_run _ _ _ is
 
     pub gives_given : (given : Given) → IsGivenTo answer given → Gives left failed source (outcome_in (Ok given)) after
     gives_given given (none, is) =
@@ -126,9 +128,9 @@ module _ {held after : Option (List ℕ)} {failed failures : ℕ} where
       rw (is, seen) (cut_short table machine departure picture fault refl shows_view)
 
 -- what is drawn is what the style says
-pub excerpt_is : (picture : Picture) (entries : List Entry) (departure : Option Departure) (style : Style) → IsStyleOf picture entries departure style
+pub excerpt_is : (picture : Picture) (table : tables.Table) (entries : List Entry) (style : Style) → IsStyleOf picture table entries None style
     → excerpt_in (drawn picture) entries ≡ excerpt_with style
-excerpt_is (svg window axis) entries departure (styles.Svg frame) is = ap (λ s. excerpt_at s (length entries)) is.is ∙ sym is.shows.excerpt
-excerpt_is (svg window axis) entries departure styles.Trace is = absurd is
-excerpt_is trace entries departure (styles.Svg frame) is = absurd is
-excerpt_is trace entries departure styles.Trace is = refl
+excerpt_is (svg chart) table entries (styles.Svg frame) is = ap (λ s. excerpt_at s (length entries)) is.is ∙ sym is.shows.excerpt
+excerpt_is (svg chart) table entries (styles.Trace tick) is = absurd is
+excerpt_is (trace asked) table entries (styles.Svg frame) is = absurd is
+excerpt_is (trace asked) table entries (styles.Trace tick) is = refl

@@ -10,7 +10,7 @@ use Rattle.apex_views.specs.Shows.{Gives, IsBehind, fails, ill_scheduled, no_mem
 use Rattle.apex_views.specs.Faults.{IsFaultIn}
 use Rattle.apex_views.specs.Showings.{schedule_read}
 use Rattle.apex_views.specs.declared.faults.ShowFault.{ShowFault}
-use Rattle.apex_views.specs.declared.faults.ShowFault.TheVariants.{Common, Empty, Schedule}
+use Rattle.apex_views.specs.declared.faults.ShowFault.TheVariants.{Common, Empty, NoProcess, Schedule}
 
 -- the answer to the items behind a table
 pub behind : (bytes table rest : List ℕ) (items : List Item) → IsParted bytes table rest → AreItemsOf rest items
@@ -33,3 +33,4 @@ module _ {left : Option (List ℕ)} {failed : ℕ} (after : ℕ) (bytes : List �
   gives_bad_schedule table rest (Common fault) parted is = rw (is, counts) no_memory
   gives_bad_schedule table rest (Schedule bad) parted is = rw counts (ill_scheduled bytes table rest ahead parted is)
   gives_bad_schedule table rest (Empty window) parted is = absurd is
+  gives_bad_schedule table rest (NoProcess name) parted is = absurd is

@@ -8,3 +8,4 @@ pub mod Parting
 pub mod Reporting
 pub mod Spans
 pub mod Told
+pub mod Named

@@ -61,6 +61,7 @@ pub run_before : (departure : DepartureIn) (made : GivenRun) (table : tables.Tab
 run_before departure (run_in.Picture plan) table machine is = sym (ap (before_of departure) is)
 run_before departure (run_in.Listing listing run) table machine is = sym (ap (before_of departure) is)
 run_before departure (run_in.Empty window run) table machine is = sym (ap (before_of departure) is)
+run_before departure (run_in.Lacking name run) table machine is = sym (ap (before_of departure) is)
 
 -- a text with a fault, or no memory
 module _ (text : List ℕ) where

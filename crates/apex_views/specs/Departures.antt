@@ -9,10 +9,14 @@ use Rattle.apex_departures.specs.Pages.{expected_text}
 use Rattle.apex_departures.specs.Shown.{shown}
 use Rattle.apex_machine.specs.Machine.{Machine, opening, run}
 use Rattle.apex_machine.specs.table.Table.{Table}
+use Rattle.apex_pictures.specs.declared.Extent.{Extent}
 use Rattle.apex_pictures.specs.declared.Mark.{Mark}
+use Rattle.apex_pictures.specs.declared.Side.{Side}
+use Rattle.apex_pictures.specs.declared.Side.TheVariants.{First, Last}
 use Rattle.apex_types.specs.declared.entries.Entry.{Entry}
 use Rattle.apex_types.specs.declared.entries.Event.{Event}
 use Rattle.apex_views.specs.declared.departures.Departure.{Departure as DepartureIn}
+use Rattle.apex_views.specs.declared.windows.Span.{Span}
 
 -- how a departure is shown: the text of the verdict, the line that the machine expects, and the line
 -- that was given
@@ -55,6 +59,21 @@ pub record DepartsBehind (text : List ℕ) (table : Table) (n : ℕ) (expected :
 abbrev pub departure_behind : ℕ → ℕ → Option Departure → Option Departure
 departure_behind last many None = None
 departure_behind last many (Some departure) = if last == many then Some departure else None
+
+-- the side on which entries are drawn, if there are too many: the last ones before a departure
+abbrev pub side_before : Option Departure → Side
+side_before None = First
+side_before (Some departure) = Last
+
+-- The entries that a picture of a span is asked to show, of a history of `entries` entries, behind which
+-- there may be a departure. If it has too many columns, and the departure follows the last of them, the
+-- last ones are drawn.
+abbrev pub extent_of : Option Departure → ℕ → Span → Extent
+extent_of departure entries span = record {
+  first = span.first;
+  last = span.last;
+  side = side_before (departure_behind span.last entries departure);
+}
 
 -- a picture marks this departure: it shows both lines; or it has no mark, if there is none
 abbrev pub Marks : Option Departure → Option Mark → Type 0

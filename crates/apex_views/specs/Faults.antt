@@ -13,7 +13,7 @@ use Rattle.apex_views.specs.declared.faults.BadSchedule.{BadSchedule}
 use Rattle.apex_views.specs.declared.faults.Reason.{Reason}
 use Rattle.apex_views.specs.declared.faults.Reason.TheVariants.{IllFormed, TooMany}
 use Rattle.apex_views.specs.declared.faults.ShowFault.{ShowFault}
-use Rattle.apex_views.specs.declared.faults.ShowFault.TheVariants.{Common, Empty, Schedule}
+use Rattle.apex_views.specs.declared.faults.ShowFault.TheVariants.{Common, Empty, NoProcess, Schedule}
 use Rattle.apex_views.specs.declared.windows.Bound.{Bound}
 use Rattle.apex_views.specs.declared.windows.Bound.TheVariants as bound
 use Rattle.apex_views.specs.declared.windows.EmptyWindow.{EmptyWindow}
@@ -36,6 +36,7 @@ abbrev pub IsFaultIn : List ℕ → ShowFault → Type 0
 IsFaultIn text (Common fault) = fault ≡ Memory
 IsFaultIn text (Schedule bad) = IsBadIn text bad
 IsFaultIn text (Empty window) = ⊥
+IsFaultIn text (NoProcess name) = ⊥
 
 abbrev pub too_many_text : List ℕ
 too_many_text = codes "more than " ++ decimal MOST_ENTRIES ++ codes " items"

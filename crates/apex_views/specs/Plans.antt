@@ -1,5 +1,5 @@
 -- The text that shows a run.
-use Rattle.std.specs.Prelude.{◌≡◌, ℕ, ◌<◌, ◌≤◌, ◌++◌, [], Bool, true, false, codes, length, List, Option, Some, None, All}
+use Rattle.std.specs.Prelude.{◌≡◌, ℕ, ◌<◌, ◌≤◌, ◌++◌, [], Bool, true, false, codes, length, List, Option, Some, None, Ok, All}
 use Rattle.std.specs.Io.KnownBytes.{Appends}
 use Rattle.apex_machine.specs.Machine.{Machine, events_of, opening, run}
 use Rattle.apex_machine.specs.Events.{IsWithin}
@@ -24,21 +24,23 @@ use Rattle.apex_schedules.specs.declared.Item.{Item}
 use Rattle.apex_pictures.specs.declared.DrawFault.{DrawFault}
 use Rattle.apex_pictures.specs.declared.DrawFault.TheVariants as draw
 use Rattle.apex_pictures.specs.Axes.{behind_of, last_column, places_of}
-use Rattle.apex_pictures.specs.Excerpts.{excerpt_of, last_drawn}
+use Rattle.apex_pictures.specs.Excerpts.{excerpt_of, first_drawn, last_drawn}
 use Rattle.apex_pictures.specs.Pictures.{picture_text}
+use Rattle.apex_pictures.specs.Rows.{HasRows}
 use Rattle.apex_pictures.specs.declared.Axis.{Axis}
 use Rattle.apex_pictures.specs.declared.Excerpt.{Excerpt}
+use Rattle.apex_pictures.specs.declared.Extent.{Extent}
 use Rattle.apex_pictures.specs.declared.Frame.{Frame}
 use Rattle.apex_pictures.specs.declared.Style.{Style}
 use Rattle.apex_pictures.specs.declared.Style.TheVariants as style
-use Rattle.apex_views.specs.Departures.{Departure, Marks, departure_behind}
-use Rattle.apex_views.specs.Showings.{Picture, View, drawn, listed, svg, trace}
+use Rattle.apex_views.specs.Departures.{Departure, Marks, departure_behind, extent_of}
+use Rattle.apex_views.specs.Rows.{rows_for}
+use Rattle.apex_views.specs.Showings.{Chart, Picture, View, drawn, listed, svg, trace}
 use Rattle.apex_views.specs.Windows.{span_in}
 use Rattle.apex_views.specs.declared.plans.Plan.{Plan}
 use Rattle.apex_views.specs.declared.showings.Listing.{Listing}
 use Rattle.apex_views.specs.declared.showings.Listing.TheVariants as lists
 use Rattle.apex_views.specs.declared.windows.Span.{Span}
-use Rattle.apex_views.specs.declared.windows.Window.{Window}
 
 -- the events run like those of the items, and this fault is reported with the picture
 pub record IsRunOf (items : List Item) (table : tables.Table) (events : List Event)
@@ -55,53 +57,56 @@ pub record IsListOf (limit : ℕ) (all events : List Event) (is_cut : Bool) : Ty
   pub whole : is_cut ≡ false → (rest ≡ []) × (length events ≤ limit)
   pub cut : is_cut ≡ true → (length events ≡ limit) × (0 < length rest)
 
--- the number of the last entry of a span that has a column
-abbrev pub last_of : Span → List Entry → ℕ
-last_of span history = last_column span.first span.last (length history)
-
--- A frame is for a span of a history: it shows the entries of the span, `MOST_COLUMNS` of them at the
--- most, and says so if these are not all. Their columns stand along the axis. It marks the departure
--- behind the history, if there is one and the last entry is drawn.
-pub record IsFrameFor (axis : Axis) (span : Span) (history : List Entry)
+-- A frame is for an extent of a history: it shows its entries, `MOST_COLUMNS` of them at the most, and
+-- says so if these are not all. Their columns stand along the axis. It marks the departure behind the
+-- history, if there is one and the last entry is drawn.
+pub record IsFrameFor (axis : Axis) (extent : Extent) (history : List Entry)
     (departure : Option Departure) (frame : Frame) : Type 0 where
-  pub first : frame.first ≡ span.first
-  pub last : frame.last ≡ last_drawn span.first span.last
-  pub excerpt : frame.excerpt ≡ excerpt_of span.first span.last (length history)
-  pub places : frame.places.items ≡ places_of axis history span.first (last_of span history)
-  pub behind : frame.behind ≡ behind_of axis history span.first (last_of span history)
+  pub first : frame.first ≡ first_drawn extent
+  pub last : frame.last ≡ last_drawn extent
+  pub excerpt : frame.excerpt ≡ excerpt_of extent (length history)
+  pub places : frame.places.items
+      ≡ places_of axis history (first_drawn extent) (last_column extent (length history))
+  pub behind : frame.behind
+      ≡ behind_of axis history (first_drawn extent) (last_column extent (length history))
   pub mark : Marks (departure_behind frame.last (length history) departure) frame.mark
 
--- a frame is for a window of a history: it shows the entries from the first one of the window to the
--- last, along this axis
-pub record IsFrameOf (window : Window) (axis : Axis) (history : List Entry)
+-- a frame is that of a chart: it shows the entries from the first one of the window to the last, along
+-- the axis, and has rows for the processes that are named
+pub record IsFrameOf (chart : Chart) (table : tables.Table) (history : List Entry)
     (departure : Option Departure) (frame : Frame) : Type 0 where
   pub span : Span
-  pub is : span_in window history ≡ Some span
-  pub shows : IsFrameFor axis span history departure frame
+  pub only : Option (List ℕ)
+  pub is : span_in chart.window history ≡ Some span
+  pub named : rows_for table chart.only ≡ Ok only
+  pub rows : HasRows table only frame.rows
+  pub shows : IsFrameFor chart.axis (extent_of departure (length history) span) history departure
+      frame
 
--- a style is that of a picture of a history, behind which there may be a departure
-abbrev pub IsStyleOf : Picture → List Entry → Option Departure → Style → Type 0
-IsStyleOf (svg window axis) history departure (style.Svg frame) =
-    IsFrameOf window axis history departure frame
-IsStyleOf (svg window axis) history departure style.Trace = ⊥
-IsStyleOf trace history departure (style.Svg frame) = ⊥
-IsStyleOf trace history departure style.Trace = Unit {0}
+-- a style is that of a picture of a table's history, behind which there may be a departure
+abbrev pub IsStyleOf : Picture → tables.Table → List Entry → Option Departure → Style → Type 0
+IsStyleOf (svg chart) table history departure (style.Svg frame) =
+    IsFrameOf chart table history departure frame
+IsStyleOf (svg chart) table history departure (style.Trace tick) = ⊥
+IsStyleOf (trace asked) table history departure (style.Svg frame) = ⊥
+IsStyleOf (trace asked) table history departure (style.Trace tick) = tick ≡ asked
 
 -- the part of a span that is drawn, in a run of `entries` entries; none if all of it is drawn
 abbrev pub excerpt_at : Option Span → ℕ → Option Excerpt
 excerpt_at None entries = None
-excerpt_at (Some span) entries = excerpt_of span.first span.last entries
+excerpt_at (Some span) entries = excerpt_of (extent_of None entries span) entries
 
 -- what a view shows of a history, if more was asked for
 abbrev pub excerpt_in : View → List Entry → Option Excerpt
-excerpt_in (drawn (svg window axis)) history = excerpt_at (span_in window history) (length history)
-excerpt_in (drawn trace) history = None
+excerpt_in (drawn (svg chart)) history =
+    excerpt_at (span_in chart.window history) (length history)
+excerpt_in (drawn (trace tick)) history = None
 excerpt_in (listed listing) history = None
 
 -- what is drawn in a style, if more was asked for
 abbrev pub excerpt_with : Style → Option Excerpt
 excerpt_with (style.Svg frame) = frame.excerpt
-excerpt_with style.Trace = None
+excerpt_with (style.Trace tick) = None
 
 -- the machine of which a plan's picture is
 abbrev pub machine_of : Plan → Machine
@@ -110,7 +115,7 @@ machine_of plan = run plan.table (opening plan.table) plan.events.items
 -- the plan is for this picture, and its events are of the table's cores
 pub record IsPlanFor (picture : Picture) (departure : Option Departure) (plan : Plan) : Type 0 where
   pub within : All (IsWithin plan.table.cores) plan.events.items
-  pub style : IsStyleOf picture (machine_of plan).history departure plan.style
+  pub style : IsStyleOf picture plan.table (machine_of plan).history departure plan.style
 
 -- the entries of a history, in this form
 abbrev pub history_in : Form → tables.Table → List Entry → List ℕ
@@ -139,7 +144,7 @@ listing_text lists.Schedule table machine =
 -- the text shows a machine in this view, behind whose history there may be a departure
 abbrev pub IsTextOf : View → tables.Table → Machine → Option Departure → List ℕ → Type 0
 IsTextOf (drawn picture) table machine departure text =
-    (style : Style) × IsStyleOf picture machine.history departure style
+    (style : Style) × IsStyleOf picture table machine.history departure style
     × (text ≡ picture_text style table machine)
 IsTextOf (listed asked) table machine departure text = text ≡ listing_text asked table machine
 

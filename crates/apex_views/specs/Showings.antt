@@ -1,8 +1,9 @@
 -- How a run is given, and how it is shown.
-use Rattle.std.specs.Prelude.{ℕ, List}
+use Rattle.std.specs.Prelude.{ℕ, List, Option, option_map}
 use Rattle.apex_pace.specs.declared.paces.Pace.{Pace}
 use Rattle.apex_pictures.specs.declared.Axis.{Axis}
 use Rattle.apex_schedules.specs.declared.Item.{Item}
+use Rattle.apex_views.specs.declared.showings.Chart.{Chart as ChartIn}
 use Rattle.apex_views.specs.declared.showings.Listing.{Listing}
 use Rattle.apex_views.specs.declared.showings.Picture.{Picture as PictureIn}
 use Rattle.apex_views.specs.declared.showings.Picture.TheVariants as pictures
@@ -24,12 +25,19 @@ pub data Source : Type 0 where
   -- by the history that is read, behind its table
   history : Source
 
+-- how an SVG shows a run: the entries of a window, with their columns along an axis, and with rows for
+-- the processes of these names or numbers, or for all
+pub record Chart : Type 0 where
+  pub window : Window
+  pub axis : Axis
+  pub only : Option (List (List ℕ))
+
 -- how a picture shows a run
 pub data Picture : Type 0 where
-  -- as SVG, the entries of a window, with their columns along an axis
-  svg : Window → Axis → Picture
+  -- as SVG
+  svg : Chart → Picture
   -- as a trace
-  trace : Picture
+  trace : ℕ → Picture
 
 -- how a run is shown
 pub data View : Type 0 where
@@ -54,10 +62,18 @@ source_said run.ReadSchedule = schedule_read
 source_said (run.Pace pace until) = paced pace until
 source_said run.History = history
 
+-- how an SVG shows a run, of a value of the program
+abbrev pub chart_said : ChartIn → Chart
+chart_said chart = record {
+  window = chart.window;
+  axis = chart.axis;
+  only = option_map (λ list. list.items) chart.only;
+}
+
 -- how a picture shows a run, of a value of the program
 abbrev pub picture_said : PictureIn → Picture
-picture_said (pictures.Svg window axis) = svg window axis
-picture_said pictures.Trace = trace
+picture_said (pictures.Svg chart) = svg (chart_said chart)
+picture_said (pictures.Trace tick) = trace tick
 
 -- how a run is shown, of a value of the program
 abbrev pub view_said : ViewIn → View

@@ -20,15 +20,15 @@ use Rattle.apex_schedules.specs.declared.Item.{Item}
 use Rattle.apex_views.specs.Departures.{Departure, DepartsBehind, departure_at, departure_said}
 use Rattle.apex_views.specs.Faults.{IsBadIn}
 use Rattle.apex_views.specs.Paced.{paced_answer}
-use Rattle.apex_pictures.specs.declared.Axis.{Axis}
 use Rattle.apex_pictures.specs.declared.Excerpt.{Excerpt}
 use Rattle.apex_views.specs.Plans.{AppendsPrefixOfView, AppendsView, IsPlanFor, excerpt_in, machine_of}
-use Rattle.apex_views.specs.Showings.{Picture, Showing, Source, View, drawn, history, listed, paced, schedule, schedule_read, svg, trace}
+use Rattle.apex_views.specs.Rows.{rows_for}
+use Rattle.apex_views.specs.Showings.{Chart, Picture, Showing, Source, View, drawn, history, listed, paced, schedule, schedule_read, svg, trace}
 use Rattle.apex_views.specs.Windows.{empty_in, span_in}
 use Rattle.apex_views.specs.declared.departures.Departure.{Departure as DepartureIn}
 use Rattle.apex_views.specs.declared.faults.BadSchedule.{BadSchedule}
 use Rattle.apex_views.specs.declared.faults.ShowFault.{ShowFault}
-use Rattle.apex_views.specs.declared.faults.ShowFault.TheVariants.{Common, Empty, Schedule as BadText}
+use Rattle.apex_views.specs.declared.faults.ShowFault.TheVariants.{Common, Empty, NoProcess, Schedule as BadText}
 use Rattle.apex_views.specs.declared.plans.Plan.{Plan}
 use Rattle.apex_views.specs.declared.showing.Shown.{Shown}
 use Rattle.apex_views.specs.declared.showing.Shown.TheVariants as ending
@@ -169,6 +169,8 @@ outcome_of_run departure (run_in.Listing listing run) =
     outcome_with departure run.kernel.table run.kernel.machine run.fault
 outcome_of_run departure (run_in.Empty window run) =
     outcome_with departure run.kernel.table run.kernel.machine run.fault
+outcome_of_run departure (run_in.Lacking name run) =
+    outcome_with departure run.kernel.table run.kernel.machine run.fault
 
 -- what a source gave
 abbrev pub outcome_in : Result Given ShowFault → Outcome
@@ -181,20 +183,28 @@ pub record IsPlanIn (view : View) (departure : Option Departure) (plan : Plan) :
   pub is : view ≡ drawn picture
   pub planned : IsPlanFor picture departure plan
 
--- the view is a picture of this window, along some axis, and a history has no entry in the window
+-- the view is a chart of this window, and a history has no entry in the window
 pub record IsEmptyIn (view : View) (window : Window) (history : List Entry) : Type 0 where
-  pub axis : Axis
-  pub is : view ≡ drawn (svg window axis)
+  pub chart : Chart
+  pub is : view ≡ drawn (svg chart)
+  pub window_is : chart.window ≡ window
   pub none : span_in window history ≡ None
 
+-- the view is a chart with a row for a process of this name or number, which a table lacks
+pub record IsLackingIn (view : View) (table : tables.Table) (name : List ℕ) : Type 0 where
+  pub chart : Chart
+  pub is : view ≡ drawn (svg chart)
+  pub lacks : rows_for table chart.only ≡ Err name
+
 -- A run that a source gave, behind which there may be a departure, is to be shown in this view: its
--- picture is planned for the view, the view is its listing, or the run has no entry in the window of
--- the view.
+-- picture is planned for the view, the view is its listing, the run has no entry in the window of the
+-- view, or its table lacks a process that is to have a row.
 abbrev pub IsRunFor : View → Option Departure → GivenRun → Type 0
 IsRunFor view departure (run_in.Picture plan) = IsPlanIn view departure plan
 IsRunFor view departure (run_in.Listing listing run) = view ≡ listed listing
 IsRunFor view departure (run_in.Empty window run) =
     IsEmptyIn view window run.kernel.machine.history
+IsRunFor view departure (run_in.Lacking name run) = IsLackingIn view run.kernel.table name
 
 -- what a source gave is to be shown in this view
 abbrev pub IsGivenFor : View → Given → Type 0
@@ -206,6 +216,8 @@ IsRunTo answer (run_in.Picture plan) = answer ≡ runs_to plan.table (machine_of
 IsRunTo answer (run_in.Listing listing run) =
     answer ≡ runs_to run.kernel.table run.kernel.machine run.fault
 IsRunTo answer (run_in.Empty window run) =
+    answer ≡ runs_to run.kernel.table run.kernel.machine run.fault
+IsRunTo answer (run_in.Lacking name run) =
     answer ≡ runs_to run.kernel.table run.kernel.machine run.fault
 
 -- what was given is a run, and that of an answer
@@ -220,9 +232,15 @@ end_before departure (Some fault) = fails (Common fault)
 -- a view shows nothing of a history that departs: it is a listing, or the history has no entry in its
 -- window before the departure
 abbrev pub IsUnshown : View → List Entry → Type 0
-IsUnshown (drawn (svg window axis)) entries = span_in window entries ≡ None
-IsUnshown (drawn trace) entries = ⊥
+IsUnshown (drawn (svg chart)) entries = span_in chart.window entries ≡ None
+IsUnshown (drawn (trace tick)) entries = ⊥
 IsUnshown (listed listing) entries = Unit {0}
+
+-- what a source gives is a run of this table
+abbrev pub IsRunOn : Outcome → tables.Table → Type 0
+IsRunOn (stops ends) table = ⊥
+IsRunOn (shows other machine fault) table = other ≡ table
+IsRunOn (parts other machine departure) table = other ≡ table
 
 -- The ways in which the showing of what a source gives ends: by the view, the writer before and how
 -- many of its calls failed, the outcome of the source, the end, and the writer afterwards and how many
@@ -243,6 +261,10 @@ pub data ShowsOutcome (view : View) (held : Option (List ℕ)) (failed : ℕ)
       → {after : Option (List ℕ)} → IsEmptyIn view window machine.history → Keeps held after
       → ShowsOutcome view held failed (shows table machine reported)
       (fails (Empty (empty_in window machine))) after failed
+  -- the table lacks a process that is to have a row: nothing was written
+  lacking : (table : tables.Table) (name : List ℕ) → {outcome : Outcome} {after : Option (List ℕ)}
+      → IsRunOn outcome table → IsLackingIn view table name → Keeps held after
+      → ShowsOutcome view held failed outcome (fails (NoProcess name)) after failed
   -- the picture of the machine before a departure is drawn, and marks it
   cut_short : (table : tables.Table) (machine : Machine) (departure : Departure)
       (picture : Picture) (fault : Option CliFault) → {after : Option (List ℕ)} {failures : ℕ}

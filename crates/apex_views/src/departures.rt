@@ -2,13 +2,14 @@
 ghost use Rattle.std.specs.Prelude.{◌≡◌, ◌-◌, All, IfOk, None, option_map, take};
 ghost use Rattle.apex_machine.specs.Events.{IsWithin};
 ghost use Rattle.apex_machine.specs.Machine.{events_of, opening, run};
-ghost use Rattle.apex_views.specs.Departures.{Marks, departure_behind, departure_said};
+ghost use Rattle.apex_views.specs.Departures.{Marks, departure_behind, departure_said, extent_of};
 
+use crate::windows::Span;
 use apex_console::booted;
 use apex_departures::ShownLines;
 use apex_dispatch::{Kernel, events_in};
 use apex_history::Lines;
-use apex_pictures::{Frame, Mark};
+use apex_pictures::{Extent, Frame, Mark, Side};
 use apex_process::QueueStore;
 use apex_store::Store;
 use apex_types::Event;
@@ -86,6 +87,22 @@ fn mark_of(alloc: Global, lines: &ShownLines) -> Result<Mark, AllocError>
     Ok(Mark { expected, given })
 }
 
+/// The entries that a picture of a span is asked to show, of a history of this many entries: if it has
+/// too many columns, and a departure follows the last of them, the last ones are drawn.
+pub(crate) fn extent_of(departure: &Option<Departure>, entries: usize, span: Span) -> Extent
+    ensures { result ≡ extent_of (option_map departure_said departure.now) entries span }
+{
+    let side = match departure {
+        Some(_) if span.last as usize == entries => Side::Last,
+        _ => Side::First,
+    };
+    Extent {
+        first: span.first,
+        last: span.last,
+        side,
+    }
+}
+
 /// The frame with the mark of the departure behind a history of this many entries, if there is one
 /// and the frame shows the last entry.
 pub(crate) fn marked(
@@ -98,6 +115,7 @@ pub(crate) fn marked(
     ensures first { IfOk result (λ found. found.first ≡ frame.first) }
     ensures last { IfOk result (λ found. found.last ≡ frame.last) }
     ensures excerpt { IfOk result (λ found. found.excerpt ≡ frame.excerpt) }
+    ensures rows { IfOk result (λ found. found.rows ≡ frame.rows) }
     ensures places { IfOk result (λ found. found.places.items ≡ frame.places.items) }
     ensures behind { IfOk result (λ found. found.behind ≡ frame.behind) }
     ensures mark { IfOk result (λ found. Marks (departure_behind frame.last entries

@@ -14,7 +14,7 @@ use apex_console::CliFault;
 use apex_history::ReadFault;
 use apex_pictures::Excerpt;
 use apex_schedules::{Item, Place, ScheduleFault, read_grouped};
-use apex_types::MOST_ENTRIES;
+use apex_types::{MOST_ENTRIES, Name};
 use arrayvec::ArrayString;
 use itoa::Buffer;
 use std::alloc::{AllocError, Global};
@@ -56,6 +56,8 @@ pub enum ShowFault {
     Schedule(BadSchedule),
     /// The run has no entry in the window of a picture.
     Empty(EmptyWindow),
+    /// A picture is to have a row for a process of this name or number, which the table lacks.
+    NoProcess(Name),
 }
 
 impl From<CliFault> for ShowFault {

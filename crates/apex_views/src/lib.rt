@@ -6,6 +6,7 @@ mod faults;
 mod listings;
 mod parts;
 mod plans;
+mod rows;
 mod runs;
 mod showing;
 mod showings;
@@ -17,6 +18,6 @@ pub use faults::{
     BadSchedule, Reason, ShowFault, excerpt_line, read_items, schedule_line, window_line,
 };
 pub use showing::{Shown, show_run};
-pub use showings::{Listing, Picture, RunSource, Showing, View};
+pub use showings::{Chart, Listing, Picture, RunSource, Showing, View};
 pub use sources::{Given, GivenRun, given_by};
 pub use windows::{Bound, EmptyWindow, Span, Window};

@@ -1,5 +1,5 @@
 //! The pictures that are drawn of a run.
-ghost use Rattle.std.specs.Prelude.{◌≡◌, true, All, IfOk, MatchOption, Option, option_map};
+ghost use Rattle.std.specs.Prelude.{◌≡◌, true, All, IfOk, MatchOption, Ok, Option, option_map};
 ghost use Rattle.apex_machine.specs.Machine.{opening, run};
 ghost use Rattle.apex_machine.specs.Events.{IsWithin};
 ghost use Rattle.apex_history.specs.Counted.{inner_of, failures_of};
@@ -10,21 +10,22 @@ ghost use Rattle.apex_views.specs.Departures.{Departure as DepartureAt, departur
 ghost use Rattle.apex_views.specs.Shows.{Shows, first_fault};
 ghost use Rattle.apex_pictures.specs.declared.Style.TheVariants.{Trace};
 ghost use Rattle.apex_views.specs.Plans.{IsFrameOf, IsListOf, IsRunOf, IsStyleOf, excerpt_with, fault_of_drawing, machine_of};
-ghost use Rattle.apex_views.specs.Showings.{Picture as PictureAsked, drawn};
+ghost use Rattle.apex_views.specs.Rows.{rows_for};
+ghost use Rattle.apex_views.specs.Showings.{Picture as PictureAsked, chart_said, drawn};
 ghost use Rattle.apex_views.specs.Windows.{span_in};
 
-use crate::departures::{Departure, marked};
+use crate::departures::{Departure, extent_of, marked};
 use crate::faults::first_fault;
-use crate::windows::Window;
+use crate::showings::Chart;
 use apex_console::{CliFault, booted, repeated};
 use apex_dispatch::{Kernel, events_in};
 use apex_history::{Counted, Sink};
-use apex_pictures::{Axis, DrawFault, Excerpt, Frame, Style, draw};
+use apex_pictures::{DrawFault, Excerpt, Frame, Style, TickLength, draw};
 use apex_process::QueueStore;
 use apex_schedules::Item;
 use apex_store::Store;
 use apex_table::Table;
-use apex_types::Event;
+use apex_types::{Event, ProcessId};
 use std::alloc::{AllocError, Global};
 
 /// A picture that is to be drawn: its style, and the events of which it is.
@@ -44,30 +45,34 @@ impl Plan {
     {
         match &self.style {
             Style::Svg(frame) => frame.excerpt,
-            Style::Trace => None,
+            Style::Trace(_) => None,
         }
     }
 }
 
-/// The frame for a window of a kernel's history, behind which there may be a departure, with its
-/// columns along an axis. None if the history has no entry in the window.
-pub fn frame_for<S: Store>(
+/// The frame of a chart of a kernel's history, with rows for these processes, or for all; behind the
+/// history there may be a departure. None if the history has no entry in the window.
+pub(crate) fn frame_for<S: Store>(
     alloc: Global,
-    window: Window,
-    axis: Axis,
+    chart: &Chart,
+    only: Option<&[ProcessId]>,
     departure: &Option<Departure>,
     kernel: &Kernel<S>,
 ) -> Result<Option<Frame>, AllocError>
-    ensures { IfOk result
-        (λ found. MatchOption found (span_in window kernel.now.machine.history ≡ None)
-        (IsFrameOf window axis kernel.now.machine.history
+    requires { rows_for kernel.now.table (chart_said chart.now).only
+        ≡ Ok (option_map (λ list. list.now) only) }
+    ensures { let history = kernel.now.machine.history in IfOk result
+        (λ found. MatchOption found (span_in chart.now.window history ≡ None)
+        (IsFrameOf (chart_said chart.now) kernel.now.table history
         (option_map departure_said departure.now))) }
 {
-    let Some(span) = window.span_in(kernel) else {
+    let Some(span) = chart.window.span_in(kernel) else {
         return Ok(None);
     };
-    let frame = Frame::new(alloc, axis, kernel, span.first, span.last)?;
-    let frame = marked(alloc, frame, departure, kernel.entries().len())?;
+    let entries = kernel.entries().len();
+    let extent = extent_of(departure, entries, span);
+    let frame = Frame::new(alloc, kernel, chart.axis, extent, only)?;
+    let frame = marked(alloc, frame, departure, entries)?;
     Ok(Some(frame))
 }
 
@@ -128,13 +133,18 @@ fn listed(alloc: Global, items: &[Item], table: &Table) -> Result<EventList, All
     })
 }
 
-/// The plan of a trace of the run of the items, on this table. Nothing is run: a trace has no
-/// frame.
-pub fn trace_plan(alloc: Global, items: &[Item], table: Table) -> Result<Plan, AllocError>
+/// The plan of a trace of the run of the items, on this table, with ticks of this length. Nothing is
+/// run: a trace has no frame.
+pub fn trace_plan(
+    alloc: Global,
+    tick: TickLength,
+    items: &[Item],
+    table: Table,
+) -> Result<Plan, AllocError>
     requires { are_cores_below table.cores items.now ≡ true }
     ensures table { IfOk result (λ plan. plan.table ≡ table) }
     ensures run { IfOk result (λ plan. IsRunOf items.now table plan.events.items plan.fault) }
-    ensures style { IfOk result (λ plan. plan.style ≡ Trace) }
+    ensures style { IfOk result (λ plan. plan.style ≡ Trace tick) }
 {
     let found = listed(alloc, items, &table)?;
     let fault = if found.is_cut {
@@ -143,7 +153,7 @@ pub fn trace_plan(alloc: Global, items: &[Item], table: Table) -> Result<Plan, A
         None
     };
     Ok(Plan {
-        style: Style::Trace,
+        style: Style::Trace(tick),
         table,
         events: found.events,
         fault,
@@ -172,7 +182,7 @@ fn draw_on<W: Sink>(
     requires within { All (IsWithin kernel.old.table.cores) events.now }
     ensures { let machine = run kernel.old.table (opening kernel.old.table) events.now in
         (picture : PictureAsked) (departure : Option DepartureAt)
-        → IsStyleOf picture machine.history departure style.now
+        → IsStyleOf picture kernel.old.table machine.history departure style.now
         → Shows (drawn picture) kernel.old.table machine departure
         (W.contents (inner_of writer.old)) (failures_of writer.old) (fault_in result)
         (W.contents (inner_of writer.new)) (failures_of writer.new) }
@@ -194,7 +204,7 @@ fn draw_run<W: Sink>(
     requires { All (IsWithin table.cores) events.now }
     ensures { let machine = run table (opening table) events.now in
         (picture : PictureAsked) (departure : Option DepartureAt)
-        → IsStyleOf picture machine.history departure style.now
+        → IsStyleOf picture table machine.history departure style.now
         → Shows (drawn picture) table machine departure
         (W.contents (inner_of writer.old)) (failures_of writer.old) (fault_in result)
         (W.contents (inner_of writer.new)) (failures_of writer.new) }
@@ -211,7 +221,7 @@ pub fn draw_plan<W: Sink>(
 ) -> Result<(), CliFault>
     requires { All (IsWithin plan.table.cores) plan.events.items }
     ensures { (picture : PictureAsked) (departure : Option DepartureAt)
-        → IsStyleOf picture (machine_of plan).history departure plan.style
+        → IsStyleOf picture plan.table (machine_of plan).history departure plan.style
         → Shows (drawn picture) plan.table (machine_of plan) departure
         (W.contents (inner_of writer.old)) (failures_of writer.old) (fault_in result)
         (W.contents (inner_of writer.new)) (failures_of writer.new) }
@@ -229,7 +239,7 @@ pub fn draw_plan<W: Sink>(
 pub fn show<W: Sink>(alloc: Global, plan: Plan, writer: &mut Counted<W>) -> Result<(), CliFault>
     requires { All (IsWithin plan.table.cores) plan.events.items }
     ensures { (picture : PictureAsked) (departure : Option DepartureAt)
-        → IsStyleOf picture (machine_of plan).history departure plan.style
+        → IsStyleOf picture plan.table (machine_of plan).history departure plan.style
         → (fault : Option CliFaultOf) × Shows (drawn picture) plan.table (machine_of plan)
         departure (W.contents (inner_of writer.old)) (failures_of writer.old)
         fault (W.contents (inner_of writer.new)) (failures_of writer.new)

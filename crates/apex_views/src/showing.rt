@@ -48,7 +48,8 @@ fn show_plan<W: Sink>(
     writer: &mut Counted<W>,
 ) -> Result<Shown, ShowFault>
     requires { All (IsWithin plan.table.cores) plan.events.items }
-    ensures { (picture : PictureAsked) → IsStyleOf picture (machine_of plan).history None plan.style
+    ensures { (picture : PictureAsked)
+        → IsStyleOf picture plan.table (machine_of plan).history None plan.style
         → (fault : Option CliFaultOf) × Shows (drawn picture) plan.table (machine_of plan) None
         (W.contents (inner_of writer.old)) (failures_of writer.old) fault
         (W.contents (inner_of writer.new)) (failures_of writer.new)
@@ -79,6 +80,7 @@ fn show_whole<W: Sink>(
             Ok(Shown::Complete)
         }
         GivenRun::Empty(window, run) => Err(ShowFault::Empty(window.empty_in(&run.kernel))),
+        GivenRun::Lacking(name, _) => Err(ShowFault::NoProcess(name)),
     }
 }
 
@@ -102,12 +104,14 @@ fn show_before<W: Sink>(
         }
         GivenRun::Listing(..) => Ok(Shown::Departed(departure.verdict)),
         GivenRun::Empty(..) => Ok(Shown::Departed(departure.verdict)),
+        GivenRun::Lacking(name, _) => Err(ShowFault::NoProcess(name)),
     }
 }
 
 /// Shows a run of the table that the reader has, and writes its text. Nothing is written if the
-/// source of the run is at fault, or if it has no entry in the window of a picture. The picture of a
-/// history that departs is drawn up to the departure; of such a history no listing is written.
+/// source of the run is at fault, if the table lacks a process that is to have a row, or if the run has
+/// no entry in the window of a picture. The picture of a history that departs is drawn up to the
+/// departure; of such a history no listing is written.
 pub fn show_run<R: Source, W: Sink>(
     alloc: Global,
     showing: &Showing,

@@ -2,8 +2,9 @@
 use crate::windows::Window;
 use apex_objects::Form;
 use apex_pace::Pace;
-use apex_pictures::Axis;
+use apex_pictures::{Axis, TickLength};
 use apex_schedules::Item;
+use apex_types::Name;
 
 /// How a run is given.
 #[derive(Drop)]
@@ -18,13 +19,24 @@ pub enum RunSource {
     History,
 }
 
+/// How an SVG shows a run.
+#[derive(Drop)]
+pub struct Chart {
+    /// The entries that are asked for.
+    pub window: Window,
+    /// The axis along which their columns stand.
+    pub axis: Axis,
+    /// The names or the numbers of the processes that have a row. None if all have one.
+    pub only: Option<Vec<Name>>,
+}
+
 /// How a picture shows a run.
-#[derive(Clone, Copy)]
+#[derive(Drop)]
 pub enum Picture {
-    /// As SVG, the entries of a window, with their columns along an axis.
-    Svg(Window, Axis),
-    /// As a trace.
-    Trace,
+    /// As SVG.
+    Svg(Chart),
+    /// As a trace, with ticks of this length.
+    Trace(TickLength),
 }
 
 /// A listing of a run.
@@ -41,7 +53,7 @@ pub enum Listing {
 }
 
 /// How a run is shown.
-#[derive(Clone, Copy)]
+#[derive(Drop)]
 pub enum View {
     /// By a picture, which a second run draws.
     Picture(Picture),

@@ -10,14 +10,16 @@ ghost use Rattle.apex_views.specs.Departures.{Departure as DepartureAt, departur
 ghost use Rattle.apex_views.specs.Shows.{Gives, IsGivenFor, IsGivenTo, IsRunFor, IsRunTo, IsToldBy, fails, outcome_in, parts, stops};
 ghost use Rattle.apex_views.specs.declared.faults.ShowFault.TheVariants.{Common};
 ghost use Rattle.apex_views.specs.Plans.{IsStyleOf};
-ghost use Rattle.apex_views.specs.Showings.{Picture as PictureAsked, drawn, history, paced, picture_said, schedule, schedule_read, source_said, svg, view_said};
+ghost use Rattle.apex_views.specs.Rows.{rows_for};
+ghost use Rattle.apex_views.specs.Showings.{Picture as PictureAsked, chart_said, drawn, history, paced, picture_said, schedule, schedule_read, source_said, svg, view_said};
 
 use crate::departures::{Departure, kernel_before};
 use crate::faults::{ShowFault, read_items};
 use crate::parts::parted;
 use crate::plans::{Plan, frame_for, plan_in, trace_plan};
+use crate::rows::{Chosen, rows_for};
 use crate::runs::run_at_pace;
-use crate::showings::{Listing, Picture, RunSource, Showing, View};
+use crate::showings::{Chart, Listing, Picture, RunSource, Showing, View};
 use crate::windows::Window;
 use apex_check::{Followed, Verdict, follow, verdict_text};
 use apex_console::{CliFault, Run, run_of, table_for};
@@ -25,9 +27,10 @@ use apex_departures::{fault_in_memory, shown_lines};
 use apex_dispatch::Kernel;
 use apex_history::{Counted, Source, read_all};
 use apex_pace::Pace;
-use apex_pictures::{Axis, Style};
+use apex_pictures::Style;
 use apex_process::QueueStore;
 use apex_schedules::Item;
+use apex_types::{Name, ProcessId};
 use std::alloc::{AllocError, Global};
 
 /// A run that a source gives, as it is to be shown.
@@ -39,6 +42,9 @@ pub enum GivenRun {
     Listing(Listing, Run),
     /// A run of which this window is to be drawn, and which has no entry in it.
     Empty(Window, Run),
+    /// A run of which a picture is to have a row for a process of this name or number, which the table
+    /// lacks.
+    Lacking(Name, Run),
 }
 
 /// What a source gives.
@@ -54,70 +60,94 @@ pub struct Given {
 fn planned(alloc: Global, style: Style, run: Run) -> Result<GivenRun, AllocError>
     ensures run { IfOk result (IsRunTo (runs_to run.kernel.table run.kernel.machine run.fault)) }
     ensures view { (picture : PictureAsked) (departure : Option DepartureAt)
-        → IsStyleOf picture run.kernel.machine.history departure style
+        → IsStyleOf picture run.kernel.table run.kernel.machine.history departure style
         → IfOk result (IsRunFor (drawn picture) departure) }
 {
     let plan = plan_in(alloc, style, run.kernel, run.fault)?;
     Ok(GivenRun::Picture(plan))
 }
 
-/// A run of which a window is to be drawn as SVG, with the departure behind it.
+/// A run of which a chart is to be drawn with rows for these processes, or for all, and with the
+/// departure behind it.
+fn charted(
+    alloc: Global,
+    chart: &Chart,
+    only: Option<&[ProcessId]>,
+    departure: &Option<Departure>,
+    run: Run,
+) -> Result<GivenRun, AllocError>
+    requires { rows_for run.kernel.table (chart_said chart.now).only
+        ≡ Ok (option_map (λ list. list.now) only) }
+    ensures run { IfOk result (IsRunTo (runs_to run.kernel.table run.kernel.machine run.fault)) }
+    ensures view { IfOk result (IsRunFor (drawn (svg (chart_said chart.now)))
+        (option_map departure_said departure.now)) }
+{
+    let found = frame_for(alloc, chart, only, departure, &run.kernel)?;
+    match found {
+        Some(frame) => planned(alloc, Style::Svg(frame), run),
+        None => Ok(GivenRun::Empty(chart.window, run)),
+    }
+}
+
+/// A run of which a chart is to be drawn, with the departure behind it.
 fn svg_of(
     alloc: Global,
-    window: Window,
-    axis: Axis,
+    chart: &Chart,
     departure: &Option<Departure>,
     run: Run,
 ) -> Result<GivenRun, AllocError>
     ensures run { IfOk result (IsRunTo (runs_to run.kernel.table run.kernel.machine run.fault)) }
-    ensures view { IfOk result (IsRunFor (drawn (svg window axis))
+    ensures view { IfOk result (IsRunFor (drawn (svg (chart_said chart.now)))
         (option_map departure_said departure.now)) }
 {
-    let found = frame_for(alloc, window, axis, departure, &run.kernel)?;
-    match found {
-        Some(frame) => planned(alloc, Style::Svg(frame), run),
-        None => Ok(GivenRun::Empty(window, run)),
+    let chosen = rows_for(alloc, run.kernel.table(), &chart.only)?;
+    match chosen {
+        Chosen::All => charted(alloc, chart, None, departure, run),
+        Chosen::These(processes) => {
+            charted(alloc, chart, Some(processes.as_slice()), departure, run)
+        }
+        Chosen::Lacking(name) => Ok(GivenRun::Lacking(name, run)),
     }
 }
 
 /// A run of which a picture is to be drawn, with the departure behind it.
 fn pictured(
     alloc: Global,
-    picture: Picture,
+    picture: &Picture,
     departure: &Option<Departure>,
     run: Run,
 ) -> Result<GivenRun, AllocError>
     ensures run { IfOk result (IsRunTo (runs_to run.kernel.table run.kernel.machine run.fault)) }
-    ensures view { IfOk result (IsRunFor (drawn (picture_said picture))
+    ensures view { IfOk result (IsRunFor (drawn (picture_said picture.now))
         (option_map departure_said departure.now)) }
 {
     match picture {
-        Picture::Svg(window, axis) => svg_of(alloc, window, axis, departure, run),
-        Picture::Trace => planned(alloc, Style::Trace, run),
+        Picture::Svg(chart) => svg_of(alloc, chart, departure, run),
+        Picture::Trace(tick) => planned(alloc, Style::Trace(*tick), run),
     }
 }
 
 /// A run, to be shown in this view, with the departure behind it.
 fn run_in(
     alloc: Global,
-    view: View,
+    view: &View,
     departure: &Option<Departure>,
     run: Run,
 ) -> Result<GivenRun, AllocError>
     ensures run { IfOk result (IsRunTo (runs_to run.kernel.table run.kernel.machine run.fault)) }
-    ensures view { IfOk result (IsRunFor (view_said view)
+    ensures view { IfOk result (IsRunFor (view_said view.now)
         (option_map departure_said departure.now)) }
 {
     match view {
         View::Picture(picture) => pictured(alloc, picture, departure, run),
-        View::Listing(listing) => Ok(GivenRun::Listing(listing, run)),
+        View::Listing(listing) => Ok(GivenRun::Listing(*listing, run)),
     }
 }
 
 /// A run, to be shown in this view, behind which there is no departure.
-fn given_in(alloc: Global, view: View, run: Run) -> Result<Given, AllocError>
+fn given_in(alloc: Global, view: &View, run: Run) -> Result<Given, AllocError>
     ensures run { IfOk result (IsGivenTo (runs_to run.kernel.table run.kernel.machine run.fault)) }
-    ensures view { IfOk result (IsGivenFor (view_said view)) }
+    ensures view { IfOk result (IsGivenFor (view_said view.now)) }
 {
     let departure = None;
     let made = run_in(alloc, view, &departure, run)?;
@@ -128,14 +158,19 @@ fn given_in(alloc: Global, view: View, run: Run) -> Result<Given, AllocError>
 ///
 /// The errors in the order of the checks: the table's fault, `Usage` if an item is of a core that
 /// the table lacks; `Memory` whenever memory is refused.
-fn given_by_items(alloc: Global, view: View, items: &[Item], text: &[u8]) -> Result<Given, CliFault>
+fn given_by_items(
+    alloc: Global,
+    view: &View,
+    items: &[Item],
+    text: &[u8],
+) -> Result<Given, CliFault>
     ensures ok { IfOk result (IsGivenTo (answer_of items.now text.now)) }
-    ensures view { IfOk result (IsGivenFor (view_said view)) }
+    ensures view { IfOk result (IsGivenFor (view_said view.now)) }
     ensures err { IfErr result (λ fault. Refuses fault (answer_of items.now text.now)) }
 {
-    if let View::Picture(Picture::Trace) = view {
+    if let View::Picture(Picture::Trace(tick)) = view {
         let table = table_for(alloc, items, text)?;
-        let plan = trace_plan(alloc, items, table)?;
+        let plan = trace_plan(alloc, *tick, items, table)?;
         return Ok(Given {
             made: GivenRun::Picture(plan),
             departure: None,
@@ -149,13 +184,13 @@ fn given_by_items(alloc: Global, view: View, items: &[Item], text: &[u8]) -> Res
 /// What the items of a schedule give, for the table that the reader has.
 fn given_by_schedule<R: Source>(
     alloc: Global,
-    view: View,
+    view: &View,
     items: &[Item],
     reader: &mut Counted<R>,
 ) -> Result<Given, ShowFault>
     ensures gives { Gives (R.remaining (inner_of reader.old)) (failures_of reader.old)
         (schedule items.now) (outcome_in result) (failures_of reader.new) }
-    ensures view { IfOk result (IsGivenFor (view_said view)) }
+    ensures view { IfOk result (IsGivenFor (view_said view.now)) }
 {
     let text = read_all(alloc, reader)?;
     let given = given_by_items(alloc, view, items, text.as_slice())?;
@@ -166,12 +201,12 @@ fn given_by_schedule<R: Source>(
 /// the table's.
 fn given_by_read_schedule<R: Source>(
     alloc: Global,
-    view: View,
+    view: &View,
     reader: &mut Counted<R>,
 ) -> Result<Given, ShowFault>
     ensures gives { Gives (R.remaining (inner_of reader.old)) (failures_of reader.old)
         schedule_read (outcome_in result) (failures_of reader.new) }
-    ensures view { IfOk result (IsGivenFor (view_said view)) }
+    ensures view { IfOk result (IsGivenFor (view_said view.now)) }
 {
     let text = read_all(alloc, reader)?;
     let Some((table, behind)) = parted(text.as_slice()) else {
@@ -185,14 +220,14 @@ fn given_by_read_schedule<R: Source>(
 /// What a pace gives up to a time, for the table that the reader has.
 fn given_by_pace<R: Source>(
     alloc: Global,
-    view: View,
+    view: &View,
     pace: Pace,
     until: u64,
     reader: &mut Counted<R>,
 ) -> Result<Given, ShowFault>
     ensures gives { Gives (R.remaining (inner_of reader.old)) (failures_of reader.old)
         (paced pace until) (outcome_in result) (failures_of reader.new) }
-    ensures view { IfOk result (IsGivenFor (view_said view)) }
+    ensures view { IfOk result (IsGivenFor (view_said view.now)) }
 {
     let text = read_all(alloc, reader)?;
     let run = run_at_pace(alloc, pace, until, text.as_slice())?;
@@ -204,7 +239,7 @@ fn given_by_pace<R: Source>(
 /// there.
 fn given_before(
     alloc: Global,
-    view: View,
+    view: &View,
     number: u32,
     kernel: Kernel<QueueStore>,
     departure: Departure,
@@ -212,7 +247,7 @@ fn given_before(
     ensures gives { IfOk result (λ given. outcome_in (Ok given) ≡ parts kernel.table
         (after_events kernel.table (opening kernel.table) (take (number - 1)
         (events_of kernel.machine.history))) (departure_said departure)) }
-    ensures view { IfOk result (IsGivenFor (view_said view)) }
+    ensures view { IfOk result (IsGivenFor (view_said view.now)) }
 {
     let kernel = kernel_before(alloc, kernel, number)?;
     let run = Run {
@@ -227,7 +262,7 @@ fn given_before(
 /// What a text gives that was followed.
 fn given_followed(
     alloc: Global,
-    view: View,
+    view: &View,
     text: &[u8],
     followed: Followed<QueueStore>,
 ) -> Result<Given, AllocError>
@@ -235,7 +270,7 @@ fn given_followed(
         followed.kernel.machine }
     requires tellable { IsTellable followed.kernel.table followed.verdict }
     ensures gives { IfOk result (λ given. IsToldBy text.now (outcome_in (Ok given))) }
-    ensures view { IfOk result (IsGivenFor (view_said view)) }
+    ensures view { IfOk result (IsGivenFor (view_said view.now)) }
 {
     let Followed { verdict, kernel } = followed;
     match &verdict {
@@ -262,9 +297,9 @@ fn given_followed(
 }
 
 /// What the text of a history gives. Its errors are those of [`follow`].
-fn given_by_text(alloc: Global, view: View, text: &[u8]) -> Result<Given, CliFault>
+fn given_by_text(alloc: Global, view: &View, text: &[u8]) -> Result<Given, CliFault>
     ensures gives { IfOk result (λ given. IsToldBy text.now (outcome_in (Ok given))) }
-    ensures view { IfOk result (IsGivenFor (view_said view)) }
+    ensures view { IfOk result (IsGivenFor (view_said view.now)) }
     ensures err { IfErr result
         (λ fault. (fault ≡ Memory) ⊎ IsToldBy text.now (stops (fails (Common fault)))) }
 {
@@ -281,12 +316,12 @@ fn given_by_text(alloc: Global, view: View, text: &[u8]) -> Result<Given, CliFau
 /// What the history that the reader has gives, behind its table.
 fn given_by_history<R: Source>(
     alloc: Global,
-    view: View,
+    view: &View,
     reader: &mut Counted<R>,
 ) -> Result<Given, ShowFault>
     ensures gives { Gives (R.remaining (inner_of reader.old)) (failures_of reader.old)
         history (outcome_in result) (failures_of reader.new) }
-    ensures view { IfOk result (IsGivenFor (view_said view)) }
+    ensures view { IfOk result (IsGivenFor (view_said view.now)) }
 {
     let text = read_all(alloc, reader)?;
     let given = given_by_text(alloc, view, text.as_slice())?;
@@ -306,14 +341,14 @@ pub fn given_by<R: Source>(
     match &showing.source {
         RunSource::Schedule(items) => given_by_schedule(
             alloc,
-            showing.view,
+            &showing.view,
             items.as_slice(),
             reader,
         ),
-        RunSource::ReadSchedule => given_by_read_schedule(alloc, showing.view, reader),
+        RunSource::ReadSchedule => given_by_read_schedule(alloc, &showing.view, reader),
         RunSource::Pace { pace, until } => {
-            given_by_pace(alloc, showing.view, *pace, *until, reader)
+            given_by_pace(alloc, &showing.view, *pace, *until, reader)
         }
-        RunSource::History => given_by_history(alloc, showing.view, reader),
+        RunSource::History => given_by_history(alloc, &showing.view, reader),
     }
 }

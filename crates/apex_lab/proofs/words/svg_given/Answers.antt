@@ -10,3 +10,4 @@ returns c =
     same_svg (c.get_str.ensures ∙ first_value-rows found (codes "from"))
     (c.get_str-2.ensures ∙ first_value-rows found (codes "to"))
     (c.get_str-3.ensures ∙ first_value-rows found (codes "by"))
+    (c.get_str-4.ensures ∙ first_value-rows found (codes "only"))

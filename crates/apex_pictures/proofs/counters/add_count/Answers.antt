@@ -3,7 +3,7 @@ use Rattle.std.proofs.Common.{◌∙◌, ◌++◌, ap, append_assoc, codes, deci
 use Rattle.apex_json.specs.Strings.{json_text}
 use Rattle.apex_pictures.specs.Counters.{back_text, front_text}
 use Rattle.apex_pictures.specs.Instants.{time_text}
-use Rattle.apex_pictures.specs.Stamps.{time_back}
+use Rattle.apex_pictures.specs.Times.{time_back}
 use Rattle.apex_pictures.proofs.SlicesWhole.{six_behind}
 use Rattle.apex_pictures.proofs.counters.add_count.Goals as goal
 
@@ -19,8 +19,8 @@ returns-clause-text c =
     let end = codes "}}" in
     let text = c.args.piece.now.items in
     c.add_text-2.ensures.text ∙ ap (λ l. l ++ end) (six_behind text head (time_back c.args.time) front name back count _ _ _ _ _ _
-    c.add_text.ensures.text (rw (c.time.ensures.value ∙ c.requires.stamp.0) at c.add_bytes.ensures.text)
-    (rw c.front.ensures.value at c.add.ensures.text) c.add_json.ensures.text
+    c.add_text.ensures.text (rw (c.time.ensures.value ∙ ap time_back c.requires.stamp.0) at c.add_bytes.ensures.text)
+    (rw c.front.ensures.value at c.add.ensures.text) c.add_escaped.ensures.text
     (rw c.back.ensures.value at c.add-2.ensures.text) c.add_number.ensures.text)
     ∙ ap (λ l. (text ++ (l ++ front ++ name ++ back ++ count)) ++ end) (append_assoc head ts time)
     ∙ append_assoc text (head ++ ts ++ time ++ front ++ name ++ back ++ count) end

@@ -13,7 +13,7 @@ use Rattle.apex_pictures.specs.Moments.{cell_of, moment_in}
 use Rattle.apex_pictures.proofs.Counted.{counted_all}
 use Rattle.apex_pictures.proofs.Drawn.{one_column}
 use Rattle.apex_pictures.proofs.NextInstants.{next_now, place_within}
-use Rattle.apex_pictures.proofs.Pictured.{column_more, instant_more, latest_holds, latest_some, pictured_machine}
+use Rattle.apex_pictures.proofs.Pictured.{column_more, instant_more, latest_holds, latest_some, pictured_machine, timed_machine}
 use Rattle.apex_pictures.proofs.Places.{length_of}
 use Rattle.apex_pictures.proofs.TracksShown.{follow_fits, follow_many}
 use Rattle.apex_pictures.proofs.drawing.draw_event.Goals as goal
@@ -43,9 +43,12 @@ next-requires g c =
     let few = place_within c.args.kernel.now.machine.history in
     omega (arith, rw (← c.requires.instant) at few, c.holds.ensures.within, c.holds.ensures.lawful.limit.1)
 
-pub put_column-requires-clause-time : goal.put_column-requires-clause-time
-put_column-requires-clause-time g c =
-    omega (arith, ap (λ (i : Instant). i.now) c.next.ensures ∙ next_now c.args.instant.now c.now.result, c.now.ensures, c.holds-2.ensures.time)
+pub put_column-requires-clause-times : goal.put_column-requires-clause-times
+put_column-requires-clause-times g c =
+    let timed = timed_machine c.args.kernel.now.table c.args.kernel.now.machine c.holds.ensures.replays in (
+      omega (arith, ap (λ (i : Instant). i.now) c.requires.instant ∙ timed, c.holds.ensures.time),
+      omega (arith, ap (λ (i : Instant). i.now) c.next.ensures ∙ next_now c.args.instant.now c.now.result, c.now.ensures, c.holds-2.ensures.time),
+    )
 
 pub returns-in_default-latest-clause-instant : goal.returns-in_default-latest-clause-instant
 returns-in_default-latest-clause-instant g c =
@@ -108,7 +111,7 @@ returns-clause-drawn g c =
     let instant = (rw (c.now.ensures, c.requires.instant) at c.next.ensures)
     ∙ sym (instant_more table machine _ c.args.event (c.in-Ok.ensures.accepted.0 refl) new) in
     on_ok_weaker c.put_column.result
-    (λ put. one_column c.args.style.now table machine c.accept.new.self.machine _ _ _ more (rw (kept, instant) at put))
+    (λ put. one_column c.args.style.now table machine c.accept.new.self.machine _ _ _ more (rw (kept, instant, c.requires.instant) at put))
     (c.put_column.ensures.drawn _ c.requires.shown)
 
 pub returns-clause-shown : goal.returns-clause-shown

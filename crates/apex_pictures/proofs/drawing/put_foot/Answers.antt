@@ -14,8 +14,8 @@ next-end-requires g c =
     let few = place_within c.args.kernel.now.machine.history in
     omega (arith, rw (← c.requires.instant) at few, c.holds.ensures.within, c.holds.ensures.lawful.limit.1)
 
-pub hundredths-requires : goal.hundredths-requires
-hundredths-requires g c =
+pub time-requires : goal.time-requires
+time-requires g c =
     omega (arith, ap (λ (i : Instant). i.now) c.next-end.ensures ∙ next_now c.args.instant c.now.result, c.now.ensures, c.holds.ensures.time)
 
 pub returns-in-Trace : goal.returns-in-Trace
@@ -24,6 +24,6 @@ returns-in-Trace g c =
     let machine = c.args.kernel.now.machine in
     let is : c.args.last.now ≡ bare (moment_in table machine) = rw c.in-Trace.is at c.requires.shown in
     rw c.in-Trace.is (on_ok_weaker c.put_foot-in-Trace.result
-    (λ put. (rw (c.table-in-Trace.ensures, c.hundredths.ensures, c.next-end.ensures, c.requires.instant, c.now.ensures, is) at put)
-    ∙ ap (λ l. c.args.text.now.items ++ l) (foot_same table (end_time machine) machine.roster.now (moment_in table machine)))
+    (λ put. (rw (c.table-in-Trace.ensures, c.time.ensures, c.next-end.ensures, c.requires.instant, c.now.ensures, is) at put)
+    ∙ ap (λ l. c.args.text.now.items ++ l) (foot_same table (end_time c.in-Trace.tick machine) machine.roster.now (moment_in table machine)))
     c.put_foot-in-Trace.ensures)

@@ -7,5 +7,5 @@ pub loop-place-preserved : goal.loop-place-preserved
 loop-place-preserved c = record {
   many = c.loop-place.invariant.many;
   text = text_next (cell_at c.args.table.now c.args.frame.now c.args.width c.args.moment.now) c.loop-place.place _ _ _ c.loop-place.invariant.text
-      (rw (c.cell.ensures, c.at-process.ensures) at c.in_ok-put_cell.ensures);
+      (rw c.at.ensures at c.in_ok-put_cell_at.ensures);
 }

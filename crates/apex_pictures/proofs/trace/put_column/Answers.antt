@@ -1,14 +1,12 @@
--- The counts are those that the history gives, and the texts are one behind the other.
+-- The counts are those that the history gives.
 use Rattle.std.proofs.Common.{◌≡◌, ◌∙◌, ap, refl}
 use Rattle.std.proofs.lemmas.Result.{on_ok_weaker}
 use Rattle.apex_machine.specs.Machine.{objects_after}
 use Rattle.apex_machine.specs.Situations.{Situation}
 use Rattle.apex_machine.specs.processes.Roster.{Roster}
 use Rattle.apex_pictures.specs.Counts.{Counts, counts_after, counts_of}
-use Rattle.apex_pictures.specs.Moments.{moment_in, moment_of}
-use Rattle.apex_pictures.specs.Terms.{Entry}
+use Rattle.apex_pictures.specs.Moments.{moment_of}
 use Rattle.apex_pictures.specs.Tracks.{bare}
-use Rattle.apex_pictures.proofs.TracksShown.{column_whole}
 use Rattle.apex_pictures.proofs.trace.put_column.Goals as goal
 
 pub returns-clause-text : goal.returns-clause-text
@@ -16,14 +14,7 @@ returns-clause-text g c =
     let kernel = c.args.kernel.now in
     let objects : c.objects-objects.result.now ≡ objects_after kernel.table kernel.machine.history =
     c.objects-objects.ensures ∙ ap (λ (s : Situation). s.objects) c.situation.ensures in
-    let now : c.entry.inside.now ≡ c.args.entry.now.now = ap (λ (e : Entry). e.now) c.entry.view_is in
-    let notices : c.entry.inside.notices.now ≡ c.args.entry.now.notices = ap (λ (e : Entry). e.notices) c.entry.view_is in
-    on_ok_weaker c.put_marks.result
-    (λ put. column_whole kernel.table c.args.time c.args.shown.now c.args.entry.now (bare (moment_in kernel.table kernel.machine))
-    c.args.text.now.items c.put_changes.new.text.items c.put_marks.new.text.items
-    (rw (c.table-table.ensures, c.new-stamp.ensures.ticks, now, c.store.ensures.roster, objects) at c.in_ok-put_changes.ensures.text)
-    (rw (c.new-stamp.ensures.ticks, now, notices) at put))
-    c.put_marks.ensures
+    rw (c.table-table.ensures, c.store.ensures.roster, objects) at c.put_column.ensures.text
 
 pub returns-clause-shown : goal.returns-clause-shown
 returns-clause-shown g c =
@@ -34,7 +25,7 @@ returns-clause-shown g c =
     let counts : counts_of c.table-table.result.now roster c.objects-objects.result.now ≡ counts_after kernel.table kernel.machine.roster kernel.machine.history =
     rw (c.table-table.ensures, c.store.ensures.roster, objects) refl in
     let shown =
-    c.put_changes.ensures.shown
+    c.put_column.ensures.shown
     ∙ ap (λ (counted : Counts). bare (moment_of roster counted)) counts
     ∙ ap (λ (r : Roster). bare (moment_of r (counts_after kernel.table kernel.machine.roster kernel.machine.history))) c.store.ensures.roster in
-    on_ok_weaker c.put_marks.result (λ put. shown) c.put_marks.ensures
+    on_ok_weaker c.put_column.result (λ put. shown) c.put_column.ensures.text

@@ -5,7 +5,7 @@ use Rattle.std.proofs.lemmas.Result.{err_from_is_err_and}
 use Rattle.apex_views.specs.Departures.{departure_said}
 use Rattle.apex_views.specs.Plans.{machine_of}
 use Rattle.apex_views.specs.Showings.{listed}
-use Rattle.apex_views.specs.Shows.{IsEmptyIn, IsPlanIn, unshown}
+use Rattle.apex_views.specs.Shows.{IsEmptyIn, IsLackingIn, IsPlanIn, lacking, unshown}
 use Rattle.apex_views.proofs.Endings.{ends_before}
 use Rattle.apex_views.proofs.showing.show_before.Goals as goal
 
@@ -37,8 +37,15 @@ returns-in-Listing g c = λ view asked.
     let seen : view ≡ listed c.in-Listing.field-0 = rw c.in-Listing.is at asked in
     rw (c.in-Listing.is, seen) (unshown _ _ (departure_said c.args.departure) tt (Keeps-refl _))
 
-pub returns : goal.returns
-returns g c = λ view asked.
+pub returns-in-Empty : goal.returns-in-Empty
+returns-in-Empty g c = λ view asked.
     let run = c.in-Empty.field-1 in
     let nowhere : IsEmptyIn view c.in-Empty.field-0 run.kernel.machine.history = rw c.in-Empty.is at asked in
-    rw (c.in-Empty.is, nowhere.is) (unshown run.kernel.table run.kernel.machine (departure_said c.args.departure) nowhere.none (Keeps-refl _))
+    rw (c.in-Empty.is, nowhere.is) (unshown run.kernel.table run.kernel.machine (departure_said c.args.departure)
+    (rw nowhere.window_is nowhere.none) (Keeps-refl _))
+
+pub returns : goal.returns
+returns g c = λ view asked.
+    let run = c.in-Lacking.field-1 in
+    let missing : IsLackingIn view run.kernel.table c.in-Lacking.name = rw c.in-Lacking.is at asked in
+    rw c.in-Lacking.is (lacking run.kernel.table c.in-Lacking.name refl missing (Keeps-refl _))

@@ -20,5 +20,5 @@ returns g c = λ picture styled.
     let (fault, shows_view, same) = c.in_ok-show.ensures picture None styled in
     let history = (machine_of c.args.plan).history in
     let part = excerpt_in (drawn picture) history in
-    let part_is = c.part-part.ensures ∙ sym (excerpt_is picture history None c.args.plan.style styled) in
+    let part_is = c.part-part.ensures ∙ sym (excerpt_is picture c.args.plan.table history c.args.plan.style styled) in
     (fault, shows_view, c.shown_in.ensures ∙ ap end_of_part part_is ∙ ap (λ (f : Option CliFault). end_of part f) same)

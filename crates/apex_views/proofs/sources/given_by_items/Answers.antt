@@ -22,9 +22,9 @@ returns-in_err-plan-clause-err c =
 pub returns-in-Picture-Trace-clause-view : goal.returns-in-Picture-Trace-clause-view
 returns-in-Picture-Trace-clause-view c =
     let plan = c.in_ok-plan.plan in
-    let same : c.in-Picture-Trace.field-0 ≡ Trace = rw c.in-Picture-Trace.is at c.in-Picture-Trace.field-0-is in
+    let same : c.in-Picture-Trace.field-0 ≡ Trace c.in-Picture-Trace.tick = rw c.in-Picture-Trace.is at c.in-Picture-Trace.field-0-is in
     rw (c.in-Picture-Trace.is, same) (record {
-      picture = trace;
+      picture = trace c.in-Picture-Trace.tick;
       is = refl;
-      planned = record { within = rw c.in_ok-plan.ensures.table c.in_ok-plan.ensures.run.within; style = rw c.in_ok-plan.ensures.style tt };
+      planned = record { within = rw c.in_ok-plan.ensures.table c.in_ok-plan.ensures.run.within; style = rw c.in_ok-plan.ensures.style refl };
     })

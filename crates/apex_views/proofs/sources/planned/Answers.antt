@@ -8,6 +8,6 @@ returns-clause-view c = λ picture departure styled. record {
   is = refl;
   planned = record {
     within = c.in_ok-plan.ensures.within;
-    style = rw (c.in_ok-plan.ensures.style, c.in_ok-plan.ensures.machine) styled;
+    style = rw (c.in_ok-plan.ensures.style, c.in_ok-plan.ensures.machine, c.in_ok-plan.ensures.table) styled;
   };
 }

@@ -1,37 +1,82 @@
--- A round of a level.
-use Rattle.std.proofs.Common.{◌≡◌, ℕ, ◌+◌, sym, ap, ◌∙◌, subst, arith}
+-- The states that are laid out next are of the same level, or of the next one.
+use Rattle.std.proofs.Common.{◌≡◌, ℕ, ◌+◌, ◌-◌, ◌<◌, ◌≤◌, length, sym, ap, ◌∙◌, subst, arith}
+use Rattle.apex_explore.specs.Searches.{IsOver}
 use Rattle.apex_explore.specs.Systems.{step_within}
 use Rattle.apex_explore.specs.declared.fronts.Front.{Front}
+use Rattle.apex_explore.specs.declared.searches.Search.{Search}
+use Rattle.apex_explore.proofs.Levels.{turned_level}
+use Rattle.apex_states.specs.States.{Reached}
 use Rattle.apex_jobs.specs.Rounds.{AreExpansions, AreLaidOut}
 use Rattle.apex_jobs.proofs.Rounds.{AreExpansions-later}
 use Rattle.apex_jobs.proofs.jobs.Jobs.go_on_at_once.Goals as goal
 
-pub loop-end-preserved : goal.loop-end-preserved
-loop-end-preserved g c =
+pub loop-search-preserved : goal.loop-search-preserved
+loop-search-preserved g c =
     let step = step_within (g.S.System.choice_count c.args.system.now) (g.S.System.step c.args.system.now) in
     let is_state = g.S.System.is_state c.args.system.now in
+    let word_count = g.S.System.word_count c.args.system.now in
+    let so_far = c.loop-search.invariant in
     let taken = c.in_ok-stop.ensures.taken in
     let past = taken.past c.in-None.is in
     let same = c.in_ok-lay_out_all-2.ensures.same in
-    let old = c.loop-end.search in
-    let base = c.lay_out_all-in-loop-end.new.search in
+    let old = c.loop-search.search in
+    let base = c.lay_out_all-in-loop-search.new.search in
     let new = c.take_and_expand.new.search in
-    let end = c.loop-end.end in
-    let next : ℕ = end + c.min.result in
-    let laid : AreLaidOut is_state base.states end next c.lay_out_all-in-loop-end.new.desks = rw same.states c.in_ok-lay_out_all-2.ensures.laid in
-    let width : base.states.width ≡ g.S.System.word_count c.args.system.now = rw same.states c.loop-end.invariant.over.width in
+    let turn = c.turn.new.self in
+    let end = c.loop-search.end in
+    let count = c.states_at_once-in-loop-search.result in
+    let next : ℕ = end + count in
+    let laid : AreLaidOut is_state base.states end next c.lay_out_all-in-loop-search.new.desks = rw same.states c.in_ok-lay_out_all-2.ensures.laid in
+    let width : base.states.width ≡ word_count = rw same.states so_far.over.width in
     let found = c.in_ok-stop.ensures.expansions base.states end next width laid in
     let kept = AreExpansions-later step is_state base.states new.states end next c.in_ok-stop.more.items taken.states (taken.over.width ∙ sym width) found in
-    let From : ℕ → Type 0 = λ n. AreExpansions step is_state new.states n next c.in_ok-stop.more.items in
-    let level : base.front.level_end ≡ old.front.level_end = ap (λ (f : Front). f.level_end) same.front in
+    let states : turn.states ≡ new.states = ap (λ (s : Search g.row.W.Denot). s.states) c.turn.ensures.same in
+    let In : Reached → Type 0 = λ r. AreExpansions step is_state r end next c.in_ok-stop.more.items in
+    let From : ℕ → Type 0 = λ n. AreExpansions step is_state turn.states n next c.in_ok-stop.more.items in
+    let Over : Search g.row.W.Denot → Type 0 = λ s. IsOver word_count is_state (g.S.System.is_workspace c.args.system.now) s in
+    let at : turn.front.at ≡ end = sym c.turn.ensures.further ∙ past.at in
+    let level : new.front.level_end ≡ c.loop-search.limit = past.level ∙ (ap (λ (f : Front). f.level_end) same.front ∙ so_far.level) in
+    let longer : length old.states.states ≤ length new.states.states = omega (arith, taken.states.longer, ap (λ (r : Reached). length r.states) same.states) in
+    let there : next ≤ length new.states.states = omega (arith, longer, c.len.ensures, c.states_ahead-left.ensures.within, c.states_at_once-in-loop-search.ensures.within) in
+    let here : new.front.at < new.front.level_end → next ≤ new.front.level_end = λ before.
+    let within = c.states_ahead-left.ensures.level (omega (arith, before, past.at, level)) in
+    omega (arith, within, level, c.states_at_once-in-loop-search.ensures.within) in
+    let turned_to = turned_level new.front (length new.states.states) next there here taken.searched.in_order in
+    let Ends : Front → Type 0 = λ f. next ≤ f.level_end in
+    let within : next ≤ turn.front.level_end = subst Ends (sym c.in-Some-turn.ensures.turned) turned_to in
+    let left = c.in-Some-turn.ensures.left in
     record {
-      over = taken.over;
-      searched = taken.searched;
+      over = subst Over (sym c.turn.ensures.same) (record {
+        width = taken.over.width;
+        state = taken.over.state;
+        next = taken.over.next;
+        workspace = taken.over.workspace;
+        states = taken.over.states;
+      });
+      searched = c.turn.ensures.searched;
       desks = c.in_ok-stop.ensures.desks;
-      expansions = subst From (sym past.at) kept;
-      further = omega (arith, past.at, c.loop-end.invariant.further, c.loop-end.invariant.before);
-      before = omega (arith, past.at, c.min.ensures, c.states_at_once-size.ensures.some, c.loop-end-test.true);
-      within = omega (arith, c.min.ensures, c.loop-end-test.true);
-      level = past.level ∙ (level ∙ c.loop-end.invariant.level);
-      room = taken.room ∙ (ap (λ s. s.room) same.states ∙ c.loop-end.invariant.room);
+      some = omega (arith, so_far.some, c.lay_out_all-in-loop-search.auto.desks, c.take_and_expand.auto.desks);
+      expansions = subst From (sym at) (subst In (sym states) kept);
+      further = omega (arith, at, so_far.further, so_far.before);
+      before = omega (arith, at, c.states_at_once-in-loop-search.ensures.some);
+      within = omega (arith, within, left.limit);
+      level = sym left.limit;
+      room = ap (λ (r : Reached). r.room) states ∙ (taken.room ∙ (ap (λ (r : Reached). r.room) same.states ∙ so_far.room));
     }
+
+pub loop-search-smaller : goal.loop-search-smaller
+loop-search-smaller g c =
+    let so_far = c.loop-search.invariant in
+    let taken = c.in_ok-stop.ensures.taken in
+    let past = taken.past c.in-None.is in
+    let same = c.in_ok-lay_out_all-2.ensures.same in
+    let old = c.loop-search.search in
+    let new = c.take_and_expand.new.search in
+    let turn = c.turn.new.self in
+    let end = c.loop-search.end in
+    let states : turn.states ≡ new.states = ap (λ (s : Search g.row.W.Denot). s.states) c.turn.ensures.same in
+    let at : turn.front.at ≡ end = sym c.turn.ensures.further ∙ past.at in
+    let room : turn.states.room ≡ old.states.room = ap (λ (r : Reached). r.room) states ∙ (taken.room ∙ ap (λ (r : Reached). r.room) same.states) in
+    let fits : length old.states.states ≤ old.states.room = c.show.ensures in
+    let smaller : turn.states.room + 1 - turn.front.at < old.states.room + 1 - old.front.at = omega (arith, room, at, fits, so_far.before, so_far.within, so_far.level, so_far.searched.in_states) in
+    smaller

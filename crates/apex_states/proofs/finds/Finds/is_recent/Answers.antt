@@ -1,4 +1,4 @@
-use Rattle.std.proofs.Common.{rules, ◌≡◌, true, Some, ap, ◌∙◌}
+use Rattle.std.proofs.Common.{rules, ◌≡◌, Some, ap, ◌∙◌}
 use Rattle.apex_states.proofs.finds.Finds.is_recent.Goals as goal
 
 pub returns-in-Some : goal.returns-in-Some

@@ -1,5 +1,4 @@
-use Rattle.std.proofs.Common.{rules, ◌≡◌, ℕ, suc, ◌+◌, ◌*◌, ◌≤◌, List, length, length-append, ap, arith}
-use Rattle.std.proofs.Math.Nat.{suc-mul}
+use Rattle.std.proofs.Common.{◌≡◌, suc, length, arith}
 use Rattle.apex_states.proofs.Packing.{rows_in-push}
 use Rattle.apex_states.proofs.rows.Rows.push_more.Goals as goal
 

@@ -6,14 +6,14 @@ use Rattle.apex_states.proofs.states.States.new.Goals as goal
 
 pub invariant_of-result : goal.invariant_of-result
 invariant_of-result c =
-    let part = c.args.width / 16 + 1 in
+    let part = c.args.width / 8 + 1 in
     let words = c.in_ok-words.words.items in
     let here = c.in_ok-here.here.items in
-    let size : c.in-Some.size ≡ part * 16 = search rules in
+    let size : c.in-Some.size ≡ part * 8 = search rules in
     let long : length words ≡ c.in-Some.size = search rules in
     let here_long : length here ≡ c.in-Some.size = search rules in
-    let words_long : length words ≡ 16 * part = omega (arith, long, size) in
-    let wide : c.args.width ≤ 16 * part = omega arith in
+    let words_long : length words ≡ 8 * part = omega (arith, long, size) in
+    let wide : c.args.width ≤ 8 * part = omega arith in
     let start = IsStored-start c.args.width part c.args.room c.in-Some.size c.in_ok-roots.roots c.in_ok-nodes.nodes c.in_ok-origins.origins.items (vec_capacity c.in_ok-origins.origins) words
     c.in_ok-roots.ensures c.in_ok-nodes.ensures c.in_ok-origins.ensures.items c.in_ok-origins.ensures.capacity words_long wide in
     let stored = IsStored-held c.args.width c.in_ok-roots.roots c.in_ok-nodes.nodes c.number_halves.new.self c.in_ok-origins.origins.items (vec_capacity c.in_ok-origins.origins) words words start c.number_halves.ensures.held c.number_halves.ensures.exact refl refl in

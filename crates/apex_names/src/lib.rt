@@ -1,0 +1,6 @@
+//! The processes that texts name.
+#![tactic(auto)]
+
+mod processes;
+
+pub use processes::process_of;

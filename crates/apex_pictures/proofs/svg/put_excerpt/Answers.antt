@@ -1,7 +1,0 @@
--- The parts are those of the text.
-use Rattle.apex_pictures.specs.Svg.{excerpt_text}
-use Rattle.apex_pictures.proofs.svg.put_excerpt.Goals as goal
-
-pub returns : goal.returns
-unfolding excerpt_text
-returns c = rw (c.from.ensures, c.from-2.ensures) at c.put_all.ensures
