@@ -10,7 +10,7 @@ use crate::marks::Mark;
 use crate::rows::Selection;
 use crate::texts::{Part, put, put_all};
 use crate::words::{id_part, name_of};
-use apex_table::Table;
+use apex_configs::Table;
 use apex_types::{CoreId, ProcessId};
 use std::alloc::AllocError;
 
