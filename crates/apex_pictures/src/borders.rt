@@ -1,4 +1,4 @@
-//! What stands around the columns of a picture as SVG: its head, and its labels, its key and its notes.
+//! The head of a picture as SVG, and what is around its columns: its labels, its key and its notes.
 ghost use Rattle.std.specs.Prelude.{◌≡◌, ◌++◌, length, OnOk};
 ghost use Rattle.apex_machine.specs.text.Listing.{texts_of};
 ghost use Rattle.apex_pictures.specs.Rows.{selection_of};

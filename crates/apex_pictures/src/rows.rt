@@ -13,7 +13,7 @@ use arrayvec::ArrayVec;
 /// The distance from one row to the next, in pixels.
 pub(crate) const ROW: u32 = 24;
 
-/// Stands for the core of a process without a row: no table has so many cores.
+/// The core of a process without a row. It is the number of no core.
 const NO_CORE: u8 = u8::MAX;
 
 /// The number of processes that have a row, of which some have none.
