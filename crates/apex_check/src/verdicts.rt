@@ -8,9 +8,10 @@ ghost use Rattle.apex_check.specs.TableFaults.{fault_of_table};
 ghost use Rattle.apex_check.specs.Verdicts.{verdict_text};
 ghost use Rattle.apex_check.specs.declared.verdicts.CheckFault.TheVariants.{Memory};
 
+use apex_configs::Table;
 use apex_history::{Lines, NextSteps, put_line};
-use apex_table::{Table, TableFault};
 use apex_types::Entry;
+use apex_words::TableFault;
 use itoa::Buffer;
 use std::alloc::AllocError;
 use std::error::Error;

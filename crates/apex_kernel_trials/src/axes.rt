@@ -6,9 +6,11 @@ ghost use Rattle.apex_machine.specs.Machine.{opening};
 
 use crate::scans::booted;
 use apex_dispatch::Kernel;
+use apex_drawing::{Style, draw};
 use apex_history::Counted;
-use apex_pictures::{Axis, Extent, Frame, Side, Style, draw};
+use apex_pictures::{Extent, Frame, Side};
 use apex_process::QueueStore;
+use apex_scales::Axis;
 use apex_table::read_table;
 use apex_types::{CoreId, Event, ProcessId};
 use std::alloc::Global;

@@ -12,17 +12,19 @@ use Rattle.apex_types.specs.declared.limits.TheConstants.{MOST_CORES, MOST_ENTRI
 use Rattle.apex_machine.specs.table.Table.{Table, ProcessConfig, SemaphoreConfig, BufferConfig, BlackboardConfig, EventFlagConfig, MutexConfig, no_process, no_semaphore, no_buffer, no_blackboard, no_event_flag, no_mutex, Step, no_step, IsLawfulStep, IsLawfulProcess, IsLawfulSemaphore, IsLawfulBuffer, IsLawfulBlackboard, IsLawfulEventFlag, IsLawfulMutex, IsLawful}
 use Rattle.apex_types.specs.declared.calls.Origin.TheVariants as origin
 use Rattle.apex_table.specs.Terms.{Profile}
-use Rattle.apex_table.specs.declared.fault.Section.TheVariants.{Top, Init}
-use Rattle.apex_table.specs.declared.key.Key.TheVariants as key
-use Rattle.apex_table.specs.Outcome.{place}
+use Rattle.apex_words.specs.declared.fault.Section.TheVariants.{Top, Init}
+use Rattle.apex_words.specs.declared.key.Key.TheVariants as key
+use Rattle.apex_words.specs.Outcome.{place}
 use Rattle.apex_table.specs.Keys.{known, number_at, number_or, value_at}
 use Rattle.apex_table.specs.Processes.{ProcessDraft, process_names, some_process, processes}
 use Rattle.apex_table.specs.Sections.{section}
-use Rattle.apex_table.specs.Objects.{Objects, objects}
+use Rattle.apex_configs.specs.Objects.{Objects}
+use Rattle.apex_table.specs.Objects.{objects}
 use Rattle.apex_table.specs.Names.{names_of}
 use Rattle.apex_table.specs.Scripts.{with_scripts}
 use Rattle.apex_table.specs.Init.{init_texts, init_list}
-use Rattle.apex_table.specs.Reading.{top_keys, table_with, TableDraft, IsRead, draft, with_steps}
+use Rattle.apex_configs.specs.Tables.{table_with}
+use Rattle.apex_table.specs.Reading.{top_keys, TableDraft, IsRead, draft, with_steps}
 use Rattle.apex_table.proofs.Results.{ok_then, AllFrom, all_from_start}
 use Rattle.apex_table.proofs.KeyLaws.{number_at_law, number_or_law}
 use Rattle.apex_table.proofs.ProcessLaws.{some_process_law, IsSoundDraft, process_law}

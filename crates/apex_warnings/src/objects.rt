@@ -3,9 +3,10 @@ ghost use Rattle.std.specs.Prelude.{◌≡◌, ◌≤◌};
 ghost use Rattle.apex_types.specs.declared.limits.TheConstants.{MOST_OBJECTS};
 ghost use Rattle.apex_warnings.specs.Objects.{group_count, group_queue, group_section};
 
+use apex_configs::Table;
 use apex_machine::Queue;
-use apex_table::{Section, Table};
 use apex_types::{BlackboardId, BufferId, EventId, MutexId, SemaphoreId};
+use apex_words::Section;
 
 /// The objects of one kind.
 #[derive(Clone, Copy, Debug, PartialEq, Eq)]
