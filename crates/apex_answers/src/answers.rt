@@ -6,12 +6,13 @@ ghost use Rattle.apex_search.specs.Answers.{IsShortestSchedule};
 ghost use Rattle.apex_table.specs.Reading.{table_of};
 ghost use Rattle.apex_answers.specs.Answers.{IsAnswerOf};
 
+use apex_configs::Table;
 use apex_dispatch::Kernel;
 use apex_explore::{Answer, Watch};
 use apex_jobs::Jobs;
 use apex_process::QueueStore;
 use apex_search::TableSystem;
-use apex_table::{Table, TableFault, read_table};
+use apex_table::{TableFault, read_table};
 use apex_types::Event;
 use std::alloc::{AllocError, Global};
 use std::marker::Sync;

@@ -1,7 +1,7 @@
 //! The cell in which fronts are published, its rule, and the steps that are made on it.
 
+use apex_configs::Table;
 use apex_receipts::Naming;
-use apex_table::Table;
 use apex_types::Entry;
 use atomic_table::{Join, Split};
 use crossbeam_utils::atomic::seq_cell::{Pass, RuledSeqCell};

@@ -18,10 +18,10 @@ use crate::following::judge;
 use crate::pending::Pending;
 use crate::tables::leading_table;
 use crate::verdicts::{CheckFault, Verdict, verdict_text};
+use apex_configs::Table;
 use apex_dispatch::Kernel;
 use apex_history::{Counted, Sink, Source};
 use apex_store::{PlainStore, Store};
-use apex_table::Table;
 use std::alloc::{AllocError, Global};
 use std::io::{self, Write};
 

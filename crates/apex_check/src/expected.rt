@@ -5,8 +5,8 @@ ghost use Rattle.apex_types.specs.declared.limits.TheConstants.{MOST_LINE};
 ghost use Rattle.apex_calls.specs.Lines.{IsPrintable, line_of};
 ghost use Rattle.apex_history.specs.declared.puts.TheConstants.{LINES_ROOM};
 
+use apex_configs::Table;
 use apex_history::{Lines, NextSteps, put_line};
-use apex_table::Table;
 use apex_types::LentEntry;
 
 /// The bytes of lines behind which one more is put. Once there are more, all are forgotten

@@ -8,8 +8,9 @@ ghost use Rattle.apex_check.specs.Texts.{IsTableText, ended, separator};
 
 use crate::pending::{Next, Pending};
 use crate::verdicts::CheckFault;
+use apex_configs::Table;
 use apex_history::{Counted, Source};
-use apex_table::{Table, read_table};
+use apex_table::read_table;
 use std::alloc::{AllocError, Global};
 
 /// Whether a line, with its line feed, is the separator.

@@ -8,8 +8,9 @@ ghost use Rattle.apex_check.specs.TableFaults.{fault_of_table};
 ghost use Rattle.apex_check.specs.Verdicts.{verdict_text};
 ghost use Rattle.apex_check.specs.declared.verdicts.CheckFault.TheVariants.{Memory};
 
+use apex_configs::Table;
 use apex_history::{Lines, NextSteps, put_line};
-use apex_table::{Table, TableFault};
+use apex_table::TableFault;
 use apex_types::Entry;
 use itoa::Buffer;
 use std::alloc::AllocError;

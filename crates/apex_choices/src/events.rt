@@ -13,10 +13,10 @@ ghost use Rattle.apex_pace.specs.Pace.{paced_opening, paced_step};
 
 use crate::counts::Counts;
 use crate::paced::PacedSituation;
+use apex_configs::Table;
 use apex_dispatch::{Deed, Situation};
 use apex_pace::Pace;
 use apex_store::PlainStore;
-use apex_table::Table;
 use apex_types::{CoreId, Event, Notices};
 use std::alloc::{AllocError, Global};
 

@@ -4,11 +4,11 @@ ghost use Rattle.apex_pace.specs.Pace.{is_at_work, is_idle, is_quiet, is_settled
 ghost use Rattle.apex_choices.specs.Counts.{paced_in};
 
 use crate::counts::Counts;
+use apex_configs::Table;
 use apex_dispatch::Situation;
 use apex_machine::OpenWork;
 use apex_pace::Pace;
 use apex_store::{PlainStore, Store};
-use apex_table::Table;
 use apex_types::{CoreId, Mode};
 use std::marker::Model;
 

@@ -7,9 +7,9 @@ ghost use Rattle.apex_pace.specs.Pace.{all_cores, first_work_end, is_quiet, is_s
 ghost use Rattle.apex_choices.specs.Counts.{paced_in};
 
 use crate::paced::{PacedSituation, least_ticks};
+use apex_configs::Table;
 use apex_pace::Pace;
 use apex_store::Store;
-use apex_table::Table;
 use apex_types::{CoreId, MOST_TICKS};
 
 /// The sooner of two instants.

@@ -12,11 +12,12 @@ ghost use Rattle.apex_cli.specs.Runs.{FrontAsked, IsRunOf, RefusesRun, Runs, fau
 ghost use Rattle.apex_console.specs.Streams.{HasWritten, HasWrittenSome, ports_of};
 
 use crate::fronts::front_text;
+use apex_configs::Table;
 use apex_console::CliFault;
 use apex_cores::{Gate, RunFault, RunPlan, run_partition, run_partition_read};
 use apex_history::{Counted, Page, Sink, Source, print_history, read_all};
 use apex_partition::{Closed, Front, Naming, NewBoard, Opened, Partition, Reader};
-use apex_table::{Table, read_table};
+use apex_table::read_table;
 use apex_types::{CoreId, ProcessId};
 use std::alloc::Global;
 use std::io;

@@ -9,10 +9,11 @@ ghost use Rattle.apex_console.specs.Schedule.{after_events};
 
 use crate::events::run_items;
 use crate::faults::CliFault;
+use apex_configs::Table;
 use apex_dispatch::Kernel;
 use apex_process::QueueStore;
 use apex_schedules::{Item, are_cores_below};
-use apex_table::{Table, read_table};
+use apex_table::read_table;
 use std::alloc::{AllocError, Global};
 
 /// The table of this text, for items of its cores.

@@ -4,10 +4,11 @@ ghost use Rattle.apex_receipts.specs.Receipts.{IsNamedAfter};
 
 use crate::closings::{Outcome, close};
 use crate::steps::{Step, take_steps};
+use apex_configs::Table;
 use apex_partition::{
     Board, Naming, NewBoard, Opened, Reader, Receipt, Seat, Shared, Ticker, open_read,
 };
-use apex_table::{Table, read_table};
+use apex_table::read_table;
 use std::alloc::Global;
 use std::marker::Brand;
 use std::mem::drop;

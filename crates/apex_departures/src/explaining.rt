@@ -15,11 +15,11 @@ use crate::objects::{put_departure_object, put_legal_object, put_reason_end};
 use crate::pages::{put_departure, put_legal, put_reason};
 use crate::whys::why;
 use apex_check::{CheckFault, Followed, Verdict, follow};
+use apex_configs::Table;
 use apex_dispatch::Kernel;
 use apex_history::{Counted, ReadFault, Sink, Source, read_all};
 use apex_objects::Form;
 use apex_process::QueueStore;
-use apex_table::Table;
 use std::alloc::{AllocError, Global};
 use std::io::{self, Write};
 

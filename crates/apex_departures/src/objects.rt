@@ -8,9 +8,9 @@ ghost use Rattle.apex_departures.specs.Shown.{shown};
 use crate::lines::GivenLine;
 use crate::pages::unended;
 use crate::putting::{column, put, put_number_between, put_shown};
+use apex_configs::Table;
 use apex_history::{Lines, NextSteps, put_line};
 use apex_json::put_json;
-use apex_table::Table;
 use apex_types::Entry;
 use std::alloc::{AllocError, Global};
 

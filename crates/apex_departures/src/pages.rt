@@ -7,8 +7,8 @@ ghost use Rattle.apex_departures.specs.Pages.{column_text, compared_text, depart
 
 use crate::lines::GivenLine;
 use crate::putting::{column, put, put_between, put_number_between, put_shown};
+use apex_configs::Table;
 use apex_history::{Lines, NextSteps, put_line};
-use apex_table::Table;
 use apex_types::Entry;
 use std::alloc::AllocError;
 

@@ -8,8 +8,8 @@ ghost use Rattle.apex_departures.specs.Shown.{shown};
 use crate::lines::{given_line, history_in};
 use crate::pages::unended;
 use crate::putting::{put, put_shown};
+use apex_configs::Table;
 use apex_history::{Lines, NextSteps, put_line};
-use apex_table::Table;
 use apex_types::Entry;
 use std::alloc::{AllocError, Global};
 

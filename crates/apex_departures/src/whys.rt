@@ -4,12 +4,12 @@ ghost use Rattle.apex_machine.specs.Machine.{events_of, opening};
 ghost use Rattle.apex_machine.specs.Events.{IsWithin};
 ghost use Rattle.apex_departures.specs.Why.{IsNumbered, IsReasonAt, IsReasonBehind, LacksEvent};
 
+use apex_configs::Table;
 use apex_console::booted;
 use apex_dispatch::{Kernel, events_in};
 use apex_process::QueueStore;
 use apex_reasons::{ReasonText, reason_of};
 use apex_store::Store;
-use apex_table::Table;
 use apex_types::Event;
 use std::alloc::{AllocError, Global};
 

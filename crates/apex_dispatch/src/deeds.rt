@@ -19,9 +19,9 @@ ghost use Rattle.apex_laws.specs.Premises.{AreOf, IsKnownTo};
 
 use crate::objects::Objects;
 use crate::services::serve;
+use apex_configs::{ProcessConfig, Table};
 use apex_machine::{OpenWork, Work};
 use apex_store::Store;
-use apex_table::{ProcessConfig, Table};
 use apex_types::{Call, Caller, CallerCall, CoreId, Notices, ProcessId, Reply};
 
 /// The deed of an event that was carried out: its caller and its call, if any, and the reply.

@@ -11,10 +11,10 @@ ghost use Rattle.apex_dispatch.specs.Sections.{Tells, thing_count, thing_text, s
 
 use crate::objects::Objects;
 use crate::waiters::{Waiters, waiters_in};
+use apex_configs::Table;
 use apex_history::{Counted, Page, Sink, StatusRow, gather_row};
 use apex_machine::Queue;
 use apex_store::{Object, Store};
-use apex_table::Table;
 use apex_types::{
     BlackboardId, BufferId, CoreId, EventId, Message, MutexId, ProcessId, SemaphoreId,
 };

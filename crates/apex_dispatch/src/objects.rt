@@ -4,10 +4,10 @@ ghost use Rattle.apex_machine.specs.Machine.{objects_after};
 
 use crate::services::ProcessObject;
 use apex_buffer::Buffer;
+use apex_configs::Table;
 use apex_flags::{Blackboard, EventFlag};
 use apex_mutex::Mutex;
 use apex_semaphore::Semaphore;
-use apex_table::Table;
 use apex_types::{BlackboardId, BufferId, SemaphoreId};
 use std::alloc::{AllocError, Global};
 use std::marker::Model;

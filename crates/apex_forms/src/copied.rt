@@ -8,9 +8,9 @@ use crate::codes::mode_in;
 use crate::restored::{counts_in, first_stamp, works_in};
 use apex_buffer::Buffer;
 use apex_choices::PacedSituation;
+use apex_configs::Table;
 use apex_dispatch::{Objects, Situation};
 use apex_store::{Object, PlainStore, Store};
-use apex_table::Table;
 use apex_types::{MOST_MESSAGES, Message, ProcessId};
 use arrayvec::ArrayVec;
 

@@ -7,8 +7,8 @@ ghost use Rattle.apex_forms.specs.Formed.{FormsAreReady, FormsFit, PartsAreKept}
 
 use crate::laws::forms_stay_in_bounds;
 use crate::usual::calls_are_usual;
+use apex_configs::Table;
 use apex_pace::Pace;
-use apex_table::Table;
 
 /// The turns of a pace fit in 32 bits.
 pub fn turns_are_few(pace: Pace)

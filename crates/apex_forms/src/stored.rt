@@ -15,11 +15,11 @@ use crate::objects::{
 use crate::parts::{put, put_all};
 use crate::records::{RECORD_WORDS, record_words};
 use apex_choices::PacedSituation;
+use apex_configs::Table;
 use apex_dispatch::{Objects, ProcessObject};
 use apex_machine::OpenWork;
 use apex_pace::Pace;
 use apex_store::{Object, PlainStore, Store};
-use apex_table::Table;
 use apex_types::{CoreId, MOST_PROCESSES, ProcessId};
 
 /// The words before those of the cores: the mode, the time, and the number of init steps made.

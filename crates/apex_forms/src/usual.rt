@@ -4,7 +4,7 @@ ghost use Rattle.apex_types.specs.declared.calls.Call.{Call};
 ghost use Rattle.apex_machine.specs.table.Table.{call_in, process_config};
 ghost use Rattle.apex_forms.specs.Reached.{HasUsualCalls, IsUsual};
 
-use apex_table::Table;
+use apex_configs::Table;
 use apex_types::{
     Call, MOST_INIT_STEPS, MOST_STEPS, ObjectCall, ProcessId, ProcessService, Timeout,
 };

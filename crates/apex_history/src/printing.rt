@@ -14,7 +14,7 @@ use crate::pages::Page;
 use crate::puts::{LINES_ROOM, Lines, put_line, put_parts};
 use crate::sources::Sink;
 use crate::steps::NextSteps;
-use apex_table::Table;
+use apex_configs::Table;
 use apex_types::{LentEntry, MOST_LINE};
 use std::io::{Result, Write};
 

@@ -16,7 +16,7 @@ mod status_rows;
 use crate::entry_parts::EntryParts;
 use crate::steps::NextSteps;
 use apex_calls::{MOST_SHAPES, MOST_WORD};
-use apex_table::Table;
+use apex_configs::Table;
 use apex_types::{
     Call, Caller, CoreId, DeadlineType, Id, LentEntry, MOST_LINE, MOST_LITERAL, MOST_NOTICES, Name,
     Notice, ProcessId, Reply, ReturnCode, Timeout, Who,

@@ -11,7 +11,7 @@ use crate::printing::pass_on;
 use crate::puts::{Lines, put_row};
 use crate::sources::Sink;
 use crate::status_rows::StatusRow;
-use apex_table::Table;
+use apex_configs::Table;
 use std::io::{Result, Write};
 
 /// Writes one line of the status listing, with its line feed. Takes no memory.

@@ -3,7 +3,7 @@ ghost use Rattle.std.specs.Prelude.{◌≡◌, true, Some, IfSome};
 ghost use Rattle.apex_machine.specs.table.Table.{call_in, process_config};
 ghost use Rattle.apex_calls.specs.CallText.{call_text};
 
-use apex_table::Table;
+use apex_configs::Table;
 use apex_types::{Call, MOST_PROCESSES, MOST_STEPS, ObjectCall, ProcessId};
 
 /// Whether the calls are equal. The services that scripts ask for most are compared in place.

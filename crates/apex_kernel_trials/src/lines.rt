@@ -5,8 +5,9 @@ ghost use Rattle.apex_types.specs.declared.calls.ObjectCall.TheVariants.{KindSer
 ghost use Rattle.apex_calls.specs.Lines.{IsPrintable};
 
 use crate::papers::paper;
+use apex_configs::Table;
 use apex_history::{Counted, FailAt, print_entry};
-use apex_table::{Table, read_table};
+use apex_table::read_table;
 use apex_types::{
     BufferCall, BufferId, BufferService, Call, Caller, CallerCall, CoreId, LentEntry, MOST_CORES,
     MOST_ENTRIES, MOST_LINE, MOST_NOTICES, MOST_PROCESSES, MOST_SPAN, MOST_TICKS, Message, Notice,

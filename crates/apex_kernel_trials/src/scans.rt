@@ -3,12 +3,13 @@ ghost use Rattle.std.specs.Prelude.{◌≡◌};
 ghost use Rattle.apex_machine.specs.Machine.{opening};
 ghost use Rattle.apex_dispatch.specs.Kernel.{kernel_in};
 
+use apex_configs::Table;
 use apex_dispatch::Kernel;
 use apex_links::Visits;
 use apex_machine::Queue;
 use apex_process::QueueStore;
 use apex_store::Store;
-use apex_table::{Table, read_table};
+use apex_table::read_table;
 use apex_types::{CoreId, SemaphoreId};
 use std::alloc::Global;
 use std::mem::drop;

@@ -2,7 +2,7 @@
 ghost use Rattle.std.specs.Prelude.{◌≡◌};
 ghost use Rattle.apex_names.specs.Processes.{place_of, place_of_name, place_of_number};
 
-use apex_table::Table;
+use apex_configs::Table;
 use apex_types::{Name, ProcessId, number_at_most};
 
 /// The process of this name.

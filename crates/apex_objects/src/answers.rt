@@ -12,7 +12,7 @@ use crate::elements::{Element, put_array};
 use crate::lines::{
     MOST_OBJECT, OBJECTS_ROOM, ObjectLines, put, put_instant, put_number, put_string,
 };
-use apex_table::Table;
+use apex_configs::Table;
 use apex_types::ProcessId;
 
 impl Element for u8 {

@@ -8,7 +8,7 @@ ghost use Rattle.apex_objects.specs.declared.lines.TheConstants.{MOST_OBJECT, OB
 use crate::elements::put_array;
 use crate::lines::{ObjectLines, put, put_number, put_process};
 use crate::texts::put_texts;
-use apex_table::Table;
+use apex_configs::Table;
 use apex_types::{Caller, LentEntry, Who};
 
 /// The maker of an event.

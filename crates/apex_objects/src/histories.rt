@@ -8,8 +8,8 @@ ghost use Rattle.apex_objects.specs.Entries.{objects_of};
 use crate::entries::put_entry_object;
 use crate::lines::ObjectLines;
 use crate::writing::{hand_on, make_room};
+use apex_configs::Table;
 use apex_history::{Counted, Entries, Sink};
-use apex_table::Table;
 use std::io::Result;
 
 /// Writes the objects of the entries, a line each, many of them with one write (this profile).

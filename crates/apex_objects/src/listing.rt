@@ -16,11 +16,11 @@ use crate::rows::{
     put_process_row, put_semaphore, put_time,
 };
 use crate::writing::{hand_on, make_room};
+use apex_configs::Table;
 use apex_dispatch::{Kernel, Objects, waiters_in};
 use apex_history::{Counted, Sink};
 use apex_machine::Queue;
 use apex_store::{Object, Store};
-use apex_table::Table;
 use apex_types::{BlackboardId, BufferId, CoreId, EventId, MutexId, ProcessId, SemaphoreId};
 use std::io::Result;
 use std::marker::Model;

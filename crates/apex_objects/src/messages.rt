@@ -8,7 +8,7 @@ ghost use Rattle.apex_objects.specs.Parts.{message_string, or_null};
 ghost use Rattle.apex_objects.specs.declared.lines.TheConstants.{OBJECTS_ROOM};
 
 use crate::lines::{ObjectLines, put};
-use apex_table::Table;
+use apex_configs::Table;
 use apex_types::{MOST_LITERAL, Message};
 
 /// A hexadecimal digit.

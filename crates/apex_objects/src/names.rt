@@ -4,8 +4,8 @@ ghost use Rattle.apex_types.specs.declared.limits.TheConstants.{MOST_NAME};
 ghost use Rattle.apex_machine.specs.text.Texts.{process_name};
 ghost use Rattle.apex_objects.specs.Rows.{object_name};
 
+use apex_configs::Table;
 use apex_machine::Queue;
-use apex_table::Table;
 use apex_types::ProcessId;
 
 /// The name of a process; no byte if there is no such process.

@@ -15,8 +15,8 @@ use crate::lines::{
 use crate::messages::put_optional_message;
 use crate::names::{object_name, process_name};
 use crate::waits::put_optional_wait;
+use apex_configs::Table;
 use apex_machine::{Queue, Record, Suspender};
-use apex_table::Table;
 use apex_types::{
     BlackboardId, BufferId, CoreId, EventId, MOST_PROCESSES, Message, Mode, MutexId, ProcessId,
     SemaphoreId, State,

@@ -10,9 +10,9 @@ ghost use Rattle.apex_objects.specs.declared.texts.TheConstants.{ARROW, FRONT, T
 ghost use Rattle.apex_types.specs.declared.limits.TheConstants.{MOST_LINE};
 
 use crate::lines::{ObjectLines, put, put_string};
+use apex_configs::Table;
 use apex_history::{Lines, NextSteps, put_line};
 use apex_json::MOST_ESCAPE;
-use apex_table::Table;
 use apex_types::{Call, Caller, LentEntry, MOST_LINE, Reply, Who};
 
 /// The most bytes of the texts of a call and of a reply as two members.

@@ -8,8 +8,8 @@ ghost use Rattle.apex_objects.specs.declared.waits.TheConstants.{WAIT_ROOM};
 
 use crate::lines::{ObjectLines, THING_ROOM, put, put_thing};
 use crate::names::object_name;
+use apex_configs::Table;
 use apex_machine::{Queue, Wait};
-use apex_table::Table;
 use apex_types::Id;
 
 /// The most bytes of a wait.

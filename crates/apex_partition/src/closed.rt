@@ -8,9 +8,9 @@ ghost use Rattle.apex_calls.specs.Lines.{IsPrintable};
 
 use crate::partitions::Partition;
 use apex_board::{Front, Publisher, Reader};
+use apex_configs::Table;
 use apex_history::Entries;
 use apex_receipts::{Naming, Receipt, Story};
-use apex_table::Table;
 use apex_types::LentEntry;
 use std::marker::Model;
 use std::sync::Wait;

@@ -10,8 +10,8 @@ use crate::published::Published;
 use crate::seats::{Seat, Ticker};
 use crate::shared::Shared;
 use apex_board::{Board, NewBoard};
+use apex_configs::Table;
 use apex_receipts::{Naming, Opened, Voice};
-use apex_table::Table;
 use apex_types::CoreId;
 use std::alloc::{AllocError, Global};
 

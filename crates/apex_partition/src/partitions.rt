@@ -12,11 +12,11 @@ ghost use Rattle.apex_partition.specs.Headline.{Headline};
 ghost use Rattle.apex_partition.specs.Steps.{IsFullAt, after_tick, after_turn, opened};
 
 use apex_board::Front;
+use apex_configs::Table;
 use apex_dispatch::{Kernel, values_and_dues_are_in_range};
 use apex_history::Entries;
 use apex_process::QueueStore;
 use apex_store::Store;
-use apex_table::Table;
 use apex_types::{CoreId, Full, LentEntry, ProcessId, State};
 use arrayvec::ArrayVec;
 use std::alloc::{AllocError, Global};

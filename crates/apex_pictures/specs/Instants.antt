@@ -30,7 +30,7 @@ instant_from instant (entry ∷ entries) = instant_from (next_instant instant en
 abbrev pub instant_after : List Entry → Instant
 instant_after done = instant_from opening_instant done
 
--- where a place is in a tick of this length
+-- the time from the beginning of a tick of this length to a place in it
 abbrev pub within_tick : ℕ → ℕ → ℕ
 within_tick tick place =
     if nat_lt place 100 then tick * place else tick * 100 + tick * (place - 100) / 100

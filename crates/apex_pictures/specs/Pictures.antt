@@ -27,7 +27,7 @@ column_text (Trace tick) table column =
     trace.column_text table (span_of tick column.begun column.instant) column.before column.entry
     column.after
 
--- where a trace ends: at the instant that the next moment would have now
+-- the end of a trace: the instant that the next moment would have now
 abbrev pub end_time : ℕ → Machine → ℕ
 end_time tick machine =
     time_at tick (next_instant (instant_after machine.history) machine.roster.now)

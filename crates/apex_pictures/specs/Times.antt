@@ -1,4 +1,4 @@
--- A time of the trace's axis, as it stands behind the number of a track.
+-- A time of the trace's axis, as it is behind the number of a track.
 use Rattle.std.specs.Prelude.{ℕ, List, ◌++◌, codes}
 use Rattle.apex_pictures.specs.Instants.{time_text}
 

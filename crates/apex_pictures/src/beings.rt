@@ -9,9 +9,9 @@ ghost use Rattle.apex_pictures.specs.declared.pieces.TheConstants.{PIECE_ROOM};
 
 use crate::names::{blackboard_name, buffer_name, event_flag_name, mutex_name, semaphore_name};
 use crate::pieces::{Piece, add, add_escaped, add_text};
+use apex_configs::Table;
 use apex_json::MOST_ESCAPE;
 use apex_machine::Wait;
-use apex_table::Table;
 use apex_types::{BlackboardId, BufferId, EventId, MOST_NAME, MutexId, SemaphoreId, State};
 
 /// The most bytes before the name of the object for which a process waits.

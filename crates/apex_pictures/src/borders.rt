@@ -1,4 +1,4 @@
-//! What stands around the columns of a picture as SVG: its head, and its labels, its key and its notes.
+//! The head of a picture as SVG, and what is around its columns: its labels, its key and its notes.
 ghost use Rattle.std.specs.Prelude.{◌≡◌, ◌++◌, length, OnOk};
 ghost use Rattle.apex_machine.specs.text.Listing.{texts_of};
 ghost use Rattle.apex_pictures.specs.Rows.{selection_of};
@@ -10,7 +10,7 @@ use crate::marks::Mark;
 use crate::rows::Selection;
 use crate::texts::{Part, put, put_all};
 use crate::words::{id_part, name_of};
-use apex_table::Table;
+use apex_configs::Table;
 use apex_types::{CoreId, ProcessId};
 use std::alloc::AllocError;
 

@@ -11,9 +11,9 @@ ghost use Rattle.apex_pictures.specs.declared.pieces.TheConstants.{CALL, PIECE_R
 use crate::instants::{TIME_ROOM, add_time};
 use crate::pieces::{CALL, DIGITS, Piece, add_bytes, add_escaped, add_number, add_text};
 use crate::stamps::{TIMED, Timed};
+use apex_configs::Table;
 use apex_history::{Lines, NextSteps, put_call_of, put_reply_of};
 use apex_json::MOST_ESCAPE;
-use apex_table::Table;
 use apex_types::{Call, Caller, LentEntry, MOST_LINE, Reply, ReturnCode};
 
 /// The most bytes of the track of a caller.

@@ -11,8 +11,8 @@ use crate::counts::{Counts, count_at};
 use crate::kinds::Kind;
 use crate::pieces::{COUNTER, Piece, add, add_bytes, add_escaped, add_number, add_text};
 use crate::stamps::Stamp;
+use apex_configs::Table;
 use apex_dispatch::Objects;
-use apex_table::Table;
 use apex_types::{MOST_NAME, MOST_OBJECTS};
 use std::alloc::AllocError;
 

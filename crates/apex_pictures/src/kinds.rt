@@ -5,8 +5,8 @@ ghost use Rattle.apex_pictures.specs.Counters.{back_text, front_text, object_nam
 ghost use Rattle.apex_pictures.specs.Counts.{content_of, count_of, displayed_on, object_count, raised_of, value_of};
 
 use crate::names::{blackboard_name, buffer_name, event_flag_name, semaphore_name};
+use apex_configs::Table;
 use apex_dispatch::Objects;
-use apex_table::Table;
 use apex_types::{BlackboardId, BufferId, EventId, SemaphoreId};
 
 /// A kind of objects that have a counter.

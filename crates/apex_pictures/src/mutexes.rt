@@ -15,8 +15,8 @@ use crate::stamps::Stamp;
 use crate::texts::{Part, put_all};
 use crate::trace::{BEGIN, NAME, Spot, add_begin, add_ended, is_same_process, mutex_spot};
 use crate::words::{id_part, name_of};
+use apex_configs::Table;
 use apex_store::Store;
-use apex_table::Table;
 use apex_types::{MutexId, ProcessId};
 use std::alloc::AllocError;
 

@@ -3,7 +3,7 @@ ghost use Rattle.std.specs.Prelude.{◌≡◌, ◌≤◌, length};
 ghost use Rattle.apex_types.specs.declared.limits.TheConstants.{MOST_NAME};
 ghost use Rattle.apex_machine.specs.text.Texts.{semaphore_name, buffer_name, blackboard_name, event_flag_name, mutex_name};
 
-use apex_table::Table;
+use apex_configs::Table;
 use apex_types::{BlackboardId, BufferId, EventId, MutexId, SemaphoreId};
 
 /// The name of a semaphore; no byte if there is no such semaphore.

@@ -6,14 +6,14 @@ ghost use Rattle.apex_types.specs.declared.limits.TheConstants.{MOST_CORES, MOST
 ghost use Rattle.apex_pictures.specs.Rows.{HasRows, bound_core, core_by, core_of, cores_of, headings_at, heading_at, is_chosen, row_at, rows_at, rows_before, rows_chosen, rows_of_core, selection_of};
 
 use crate::moments::CORES;
-use apex_table::Table;
+use apex_configs::Table;
 use apex_types::{Call, MOST_INIT_STEPS, MOST_PROCESSES, ObjectCall, ProcessId, ProcessService};
 use arrayvec::ArrayVec;
 
 /// The distance from one row to the next, in pixels.
 pub(crate) const ROW: u32 = 24;
 
-/// Stands for the core of a process without a row: no table has so many cores.
+/// The core of a process without a row. It is the number of no core.
 const NO_CORE: u8 = u8::MAX;
 
 /// The number of processes that have a row, of which some have none.

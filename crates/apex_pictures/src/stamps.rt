@@ -20,7 +20,7 @@ pub(crate) const TIMED: usize = TIME_ROOM + 6;
 /// The most bytes behind the number of a track at the beginning of a slice.
 pub(crate) const BEGIN_ROOM: usize = TIMED + DIGITS + 25;
 
-/// A time on the trace's axis, with its text as it stands behind the number of a track.
+/// A time on the trace's axis, with its text as it is behind the number of a track.
 #[derive(Drop)]
 pub(crate) struct Timed {
     /// In nanoseconds.
@@ -60,7 +60,7 @@ impl Timed {
         }
     }
 
-    /// Its text, as it stands behind the number of a track.
+    /// Its text, as it is behind the number of a track.
     #[inline(always)]
     pub(crate) fn text(&self) -> &[u8]
         ensures value { result.now ≡ time_back self.now }
@@ -101,7 +101,7 @@ impl Stamp {
         }
     }
 
-    /// The time, as it stands behind the number of a track.
+    /// The time, as it is behind the number of a track.
     #[inline(always)]
     pub(crate) fn time(&self) -> &[u8]
         ensures value { result.now ≡ time_back self.now.time }

@@ -9,9 +9,9 @@ use crate::frames::Frame;
 use crate::moments::{Cell, Moment};
 use crate::texts::{Part, put, put_all, put_xml};
 use crate::words::{id_part, name_of, notice_word, put_object, put_wait, state_word};
+use apex_configs::Table;
 use apex_history::{Lines, NextSteps, put_line};
 use apex_machine::Holding;
-use apex_table::Table;
 use apex_types::{Caller, LentEntry, Notice, ProcessId, Reply, Who};
 use std::alloc::AllocError;
 

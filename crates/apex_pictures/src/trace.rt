@@ -31,10 +31,10 @@ use crate::stamps::{BEGIN_ROOM, FRONT, Stamp, TIMED, Timed, add_begin_front, add
 use crate::texts::{Part, put, put_all};
 use crate::tracks::{Tracks, is_still, track_at, track_by};
 use crate::words::{code_word, deadline_word, id_part, name_of};
+use apex_configs::Table;
 use apex_dispatch::Kernel;
 use apex_json::MOST_ESCAPE;
 use apex_store::Store;
-use apex_table::Table;
 use apex_types::{CoreId, LentEntry, MOST_NAME, MOST_NOTICES, MutexId, Notice, ProcessId};
 use std::alloc::AllocError;
 

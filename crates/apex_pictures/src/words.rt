@@ -8,8 +8,8 @@ ghost use Rattle.apex_machine.specs.text.Status.{state_text, wait_text};
 ghost use Rattle.apex_pictures.specs.Svg.{notice_word};
 
 use crate::texts::{Part, put, put_number};
+use apex_configs::Table;
 use apex_machine::Wait;
-use apex_table::Table;
 use apex_types::{DeadlineType, Id, Notice, ProcessId, ReturnCode, State};
 use std::alloc::AllocError;
 

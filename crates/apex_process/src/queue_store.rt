@@ -9,9 +9,9 @@ ghost use Rattle.apex_process.specs.State.{AreListsOfState};
 
 use crate::lists::Lists;
 use crate::owners::Owners;
+use apex_configs::Table;
 use apex_machine::{Holding, Holdings, Queue, Record, Wait};
 use apex_store::{PlainStore, Store, stays_level};
-use apex_table::Table;
 use apex_timeouts::Timers;
 use apex_types::{CoreId, Discipline, Message, Mode, MutexId, ProcessId};
 use std::alloc::{AllocError, Global};

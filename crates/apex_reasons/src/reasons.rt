@@ -15,10 +15,10 @@ ghost use Rattle.apex_reasons.specs.Reasons as reasons;
 use crate::effects::effect_of_call;
 use crate::rows::first_guard;
 use crate::rules::{Rule, idle_rule};
+use apex_configs::Table;
 use apex_dispatch::{Kernel, Objects, Situation};
 use apex_machine::OpenWork;
 use apex_store::Store;
-use apex_table::Table;
 use apex_types::{Call, Caller, CallerCall, CoreId, Event, ProcessId};
 
 /// The reason of an event's entry: the caller, its call, and the rule of the reply.

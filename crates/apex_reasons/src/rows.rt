@@ -23,12 +23,12 @@ use crate::object_rows::{
     process_guard, semaphore_guard,
 };
 use apex_buffer::Buffer;
+use apex_configs::Table;
 use apex_dispatch::{Objects, ProcessObject};
 use apex_flags::{Blackboard, EventFlag};
 use apex_mutex::Mutex;
 use apex_semaphore::Semaphore;
 use apex_store::{Store, is_owner};
-use apex_table::Table;
 use apex_types::{
     BlackboardCall, BufferCall, Call, Caller, CallerCall, EventFlagCall, MutexCall, ObjectCall,
     PartitionCall, ProcessCall, RequestedMode, SemaphoreCall, Span, TimeCall, Timeout,

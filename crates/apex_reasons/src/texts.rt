@@ -11,7 +11,7 @@ ghost use Rattle.apex_types.specs.declared.limits.TheConstants.{MOST_NAME};
 use crate::guards::MOST_SENTENCE;
 use crate::reasons::Reason;
 use crate::rules::{Rule, WaitCause};
-use apex_table::Table;
+use apex_configs::Table;
 use apex_types::{Caller, MOST_NAME, ProcessId, ReturnCode};
 use arrayvec::ArrayVec;
 use itoa::Buffer;

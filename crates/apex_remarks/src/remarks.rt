@@ -8,8 +8,9 @@ ghost use Rattle.apex_remarks.specs.Remarks.{at, fault_head, head, heads_of_faul
 ghost use Rattle.apex_remarks.specs.Terms.{Remark};
 ghost use Rattle.apex_warnings.specs.Warnings.{warnings};
 
+use apex_configs::Table;
 use apex_faults::{Finding, Location, findings_of, locate};
-use apex_table::{Key, Part, Place, Section, Subject, Table};
+use apex_table::{Key, Part, Place, Section, Subject};
 use apex_types::{BlackboardId, BufferId, EventId, MutexId, Name, Origin, ProcessId, SemaphoreId};
 use apex_warnings::{Group, StepWarning, Warning, is_among, lint};
 use std::alloc::{AllocError, Global};

@@ -17,7 +17,7 @@ use crate::processes::ProcessFigures;
 use crate::refusals::Refusals;
 use crate::services::ServiceFigures;
 use apex_calls::row_of;
-use apex_table::Table;
+use apex_configs::Table;
 
 /// The most bytes in a line before an object.
 pub(crate) const FRONT: usize = 2;

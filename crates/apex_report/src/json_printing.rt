@@ -10,8 +10,8 @@ ghost use Rattle.apex_report.specs.declared.json_lines.TheConstants.{FRONT};
 use crate::json_lines::Figures;
 use crate::lines::{Line, put, put_number};
 use crate::reports::Report;
+use apex_configs::Table;
 use apex_history::{Counted, Sink};
-use apex_table::Table;
 use std::io::{Result, Write};
 
 /// The line of an object, behind a front.

@@ -12,7 +12,7 @@ use crate::processes::ProcessFigures;
 use crate::refusals::Refusals;
 use crate::services::ServiceFigures;
 use apex_calls::row_of;
-use apex_table::Table;
+use apex_configs::Table;
 use arrayvec::ArrayVec;
 use itoa::Buffer;
 

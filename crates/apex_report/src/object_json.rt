@@ -12,8 +12,8 @@ use crate::members::{Member, put_members, put_string};
 use crate::names::{object_name, process_name};
 use crate::objects::{Level, ObjectFigures};
 use crate::ownerships::Ownership;
+use apex_configs::Table;
 use apex_machine::Queue;
-use apex_table::Table;
 
 /// The kind of an object.
 fn kind_name(queue: &Queue) -> &'static str

@@ -11,8 +11,8 @@ use crate::lines::{Line, put, put_bytes, put_long_figure, put_long_number, put_n
 use crate::names::{object_name, process_name};
 use crate::objects::{Level, ObjectFigures};
 use crate::ownerships::Ownership;
+use apex_configs::Table;
 use apex_machine::Queue;
-use apex_table::Table;
 use apex_types::ProcessId;
 
 /// The kind of an object, as its line begins.

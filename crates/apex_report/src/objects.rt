@@ -12,8 +12,8 @@ use crate::ownerships::{Owner, Ownership, ended_with, is_owner_stopped, owner_af
 use crate::processes::ProcessFigures;
 use crate::queues::{is_queue, names};
 use crate::waits::Waking;
+use apex_configs::Table;
 use apex_machine::Queue;
-use apex_table::Table;
 use apex_types::{
     BlackboardId, BufferId, BufferService, Call, EventId, LentEntry, MutexId, ObjectCall, Reply,
     ReturnCode, SemaphoreId, SemaphoreService,

@@ -13,8 +13,8 @@ use crate::objects::ObjectFigures;
 use crate::processes::ProcessFigures;
 use crate::reports::Report;
 use crate::services::ServiceFigures;
+use apex_configs::Table;
 use apex_history::{Counted, Sink};
-use apex_table::Table;
 use std::io::{Result, Write};
 
 /// Writes the line of each core.

@@ -3,9 +3,10 @@
 
 use crate::papers::paper;
 use crate::reports::fill;
+use apex_configs::Table;
 use apex_history::{Counted, FailAt, Log};
 use apex_report::{print_report_json, report_of};
-use apex_table::{Table, read_table};
+use apex_table::read_table;
 use apex_types::{DeadlineType, MOST_ENTRIES, Notice, ProcessId, ReturnCode};
 use std::alloc::Global;
 use std::mem::drop;

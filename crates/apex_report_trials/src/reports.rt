@@ -4,9 +4,10 @@
 ghost use Rattle.std.specs.Prelude.{◌<◌, ◌≤◌, length};
 
 use crate::papers::paper;
+use apex_configs::Table;
 use apex_history::{Counted, FailAt, Log};
 use apex_report::{print_report, report_of};
-use apex_table::{Table, read_table};
+use apex_table::read_table;
 use apex_types::{
     Call, Caller, CallerCall, CoreId, DeadlineType, LentEntry, MOST_ENTRIES, Notice, PartitionCall,
     ProcessId, Reply, RequestedMode, ReturnCode, SemaphoreCall, SemaphoreId, SemaphoreService,

@@ -17,11 +17,11 @@ ghost use Rattle.apex_search.specs.Steps.{searched, step_by};
 
 use crate::questions::Question;
 use apex_choices::PacedSituation;
+use apex_configs::Table;
 use apex_dispatch::Deed;
 use apex_explore::Taken;
 use apex_forms::{forms_are_ready, parts_are_kept, put_words, turns_are_few};
 use apex_pace::Pace;
-use apex_table::Table;
 use apex_types::{Event, Notices};
 
 /// The entry of a deed that was done last shows one of the facts that are asked for.

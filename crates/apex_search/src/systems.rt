@@ -20,6 +20,7 @@ use crate::laws::forms_stand_for_situations;
 use crate::questions::Question;
 use crate::steps::{make, step};
 use apex_choices::PacedSituation;
+use apex_configs::Table;
 use apex_dispatch::{Objects, ProcessObject};
 use apex_explore::{Answer, System, Taken, Watch};
 use apex_forms::{
@@ -28,7 +29,6 @@ use apex_forms::{
 };
 use apex_jobs::Jobs;
 use apex_pace::Pace;
-use apex_table::Table;
 use apex_types::{Event, Notices, ProcessId};
 use std::alloc::{AllocError, Global};
 use std::marker::{Model, Sync};

@@ -3,9 +3,10 @@ ghost use Rattle.std.specs.Prelude.{◌≡◌};
 ghost use Rattle.apex_machine.specs.Machine.{opening};
 ghost use Rattle.apex_dispatch.specs.Kernel.{kernel_in};
 
+use apex_configs::Table;
 use apex_dispatch::Kernel;
 use apex_process::QueueStore;
-use apex_table::{Table, read_table};
+use apex_table::read_table;
 use apex_types::{CoreId, Event, MOST_TICKS};
 use std::alloc::Global;
 use std::process::Abort;

@@ -9,11 +9,11 @@ ghost use Rattle.apex_steps.specs.Sessions.{after_events, marked, opening_sessio
 ghost use Rattle.apex_steps.specs.Kept.{HasGoneBack, is_kept_as};
 ghost use Rattle.apex_steps.specs.Answers.{has_room_for};
 
+use apex_configs::Table;
 use apex_console::{booted, run_items};
 use apex_dispatch::{Kernel, events_in};
 use apex_process::QueueStore;
 use apex_schedules::{Item, are_cores_below};
-use apex_table::Table;
 use apex_types::Event;
 use std::alloc::{AllocError, Global};
 use std::marker::Model;

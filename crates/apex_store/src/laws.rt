@@ -4,8 +4,8 @@ ghost use Rattle.apex_machine.specs.processes.Roster.{opening_roster, record_at}
 ghost use Rattle.apex_store.specs.Laws as laws;
 
 use crate::store::Store;
+use apex_configs::Table;
 use apex_machine::Queue;
-use apex_table::Table;
 use apex_types::{CoreId, ProcessId};
 
 /// If no two stamps are the same, the chosen process of a core is eligible, bound to the core and

@@ -5,8 +5,8 @@ ghost use Rattle.apex_types.specs.Places.{map_places};
 ghost use Rattle.apex_machine.specs.processes.Roster.{ceilings_of, opening_record};
 ghost use Rattle.apex_machine.specs.table.Table.{BufferConfig, MutexConfig, SemaphoreConfig};
 
+use apex_configs::{ProcessConfig, Table};
 use apex_machine::{Holdings, Record};
-use apex_table::{ProcessConfig, Table};
 use apex_types::{BufferId, CoreId, Discipline, MutexId, ProcessId, SemaphoreId};
 use std::alloc::{AllocError, Global};
 

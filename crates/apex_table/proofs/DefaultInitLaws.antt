@@ -14,8 +14,8 @@ use Rattle.apex_calls.specs.CallText.{count_of}
 use Rattle.apex_calls.specs.declared.catalogue.Kind.TheVariants.{Process, Semaphore, Buffer, Blackboard, EventFlag, Mutex}
 use Rattle.apex_table.specs.Terms.{Kind, Profile}
 use Rattle.apex_table.specs.DefaultInit.{bare, create, creates, creates_process, starts_process, joined, creates_objects, default_init}
-use Rattle.apex_table.specs.Objects.{Objects}
-use Rattle.apex_table.specs.Reading.{table_with}
+use Rattle.apex_configs.specs.Objects.{Objects}
+use Rattle.apex_configs.specs.Tables.{table_with}
 use Rattle.apex_table.proofs.Results.{AllFrom, all_any, all_append, all_from_any}
 
 -- a fact of each element's value, if all places are below n

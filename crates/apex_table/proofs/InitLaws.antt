@@ -12,9 +12,9 @@ use Rattle.apex_table.specs.Subjects.{whole}
 use Rattle.apex_table.specs.Outcome.{place}
 use Rattle.apex_table.specs.Keys.{array, at_most}
 use Rattle.apex_table.specs.Steps.{of_word, step}
-use Rattle.apex_table.specs.Objects.{Objects}
+use Rattle.apex_configs.specs.Objects.{Objects}
 use Rattle.apex_table.specs.Names.{Names}
-use Rattle.apex_table.specs.Reading.{table_with}
+use Rattle.apex_configs.specs.Tables.{table_with}
 use Rattle.apex_table.specs.Init.{next_text, texts, given_texts, init_texts, is_init_call, init_step, next_init_step, init_steps, init_list}
 use Rattle.apex_table.proofs.Results.{ok_then, ok_if, both_ok, AllFrom, all_any, each_from, each_length}
 use Rattle.apex_table.proofs.KeyLaws.{at_most_law}

@@ -11,18 +11,20 @@ use Rattle.apex_table.specs.declared.fault.Section.TheVariants as sections
 use Rattle.apex_table.specs.Terms.{Origin, Place, Profile}
 use Rattle.apex_table.specs.Outcome.{place}
 use Rattle.apex_table.specs.Processes.{ProcessDraft, process_names}
-use Rattle.apex_table.specs.Objects.{Objects}
+use Rattle.apex_configs.specs.Objects.{Objects}
 use Rattle.apex_table.specs.Names.{Names, names_of}
 use Rattle.apex_table.specs.Steps.{step}
 use Rattle.apex_table.specs.Scripts.{script, next_entry, with_scripts}
 use Rattle.apex_table.specs.Init.{init_list}
-use Rattle.apex_table.specs.Reading.{table_with}
-use Rattle.apex_table.specs.StepTexts.{table_names, HaveTexts, script_texts}
+use Rattle.apex_configs.specs.Tables.{table_with}
+use Rattle.apex_configs.specs.Texts.{script_texts}
+use Rattle.apex_table.specs.StepTexts.{table_names, HaveTexts}
 use Rattle.apex_table.proofs.Results.{ok_then, each_map}
 use Rattle.apex_table.proofs.Slots.{name_at}
 use Rattle.apex_table.proofs.StepLaws.{AreNamesOf, text_law}
 use Rattle.apex_table.proofs.ScriptLaws.{entry_names, with_scripts_names}
-use Rattle.apex_table.proofs.TextLaws.{name_anywhere, own_names, same_names, whole_texts}
+use Rattle.apex_configs.proofs.KeptTexts.{name_anywhere}
+use Rattle.apex_table.proofs.TextLaws.{own_names, same_names, whole_texts}
 
 -- two functions that agree on each element
 map_same : {A B : Type 0} (f g : A → B) (default : A) (xs : List A) → ((k : ℕ) → k < length xs → f (slice_index_or xs k default) ≡ g (slice_index_or xs k default)) → map f xs ≡ map g xs
@@ -76,10 +78,3 @@ kept_texts profile cores limit drafts procs things steps texts lawful ew ei =
     sym (IfOk-at_ok (λ (ps : List ProcessConfig). map (λ (entry : ProcessConfig). map (own_text whole (names_of drafts things) names) entry.script) ps ≡ map (λ (d : ProcessDraft). d.script) drafts) ew
     (scripts_kept whole (names_of drafts things) names drafts))
     ∙ own_texts whole (names_of drafts things) names (whole_texts profile cores limit drafts procs things steps lawful texts ew ei)
-
--- the text at a place is that of the step there
-pub text_at : (table : Table) (texts : List (List (List ℕ))) → texts ≡ script_texts table → (p k : ℕ) → slice_get (slice_index_or texts p []) k ≡ option_map (λ (s : Step). call_text table s.call) (slice_get (process_config table p).script k)
-text_at table texts kept p k =
-    ap (λ ts. slice_get (slice_index_or ts p []) k) kept
-    ∙ ap (λ ts. slice_get ts k) (name_anywhere (λ (entry : ProcessConfig). map (λ (s : Step). call_text table s.call) entry.script) no_process refl table.processes p)
-    ∙ slice_get-map (λ (s : Step). call_text table s.call) (process_config table p).script k

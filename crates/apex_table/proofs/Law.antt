@@ -18,11 +18,13 @@ use Rattle.apex_table.specs.Outcome.{place}
 use Rattle.apex_table.specs.Keys.{known, number_at, number_or, value_at}
 use Rattle.apex_table.specs.Processes.{ProcessDraft, process_names, some_process, processes}
 use Rattle.apex_table.specs.Sections.{section}
-use Rattle.apex_table.specs.Objects.{Objects, objects}
+use Rattle.apex_configs.specs.Objects.{Objects}
+use Rattle.apex_table.specs.Objects.{objects}
 use Rattle.apex_table.specs.Names.{names_of}
 use Rattle.apex_table.specs.Scripts.{with_scripts}
 use Rattle.apex_table.specs.Init.{init_texts, init_list}
-use Rattle.apex_table.specs.Reading.{top_keys, table_with, TableDraft, IsRead, draft, with_steps}
+use Rattle.apex_configs.specs.Tables.{table_with}
+use Rattle.apex_table.specs.Reading.{top_keys, TableDraft, IsRead, draft, with_steps}
 use Rattle.apex_table.proofs.Results.{ok_then, AllFrom, all_from_start}
 use Rattle.apex_table.proofs.KeyLaws.{number_at_law, number_or_law}
 use Rattle.apex_table.proofs.ProcessLaws.{some_process_law, IsSoundDraft, process_law}

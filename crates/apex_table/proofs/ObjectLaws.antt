@@ -9,7 +9,8 @@ use Rattle.apex_table.specs.Buffers.{buffers}
 use Rattle.apex_table.specs.Blackboards.{blackboards}
 use Rattle.apex_table.specs.EventFlags.{event_flags}
 use Rattle.apex_table.specs.Mutexes.{mutexes}
-use Rattle.apex_table.specs.Objects.{Objects, objects}
+use Rattle.apex_configs.specs.Objects.{Objects}
+use Rattle.apex_table.specs.Objects.{objects}
 use Rattle.apex_table.proofs.Results.{ok_then}
 use Rattle.apex_table.proofs.SectionLaws.{IsSection, section_law}
 use Rattle.apex_table.proofs.SemaphoreLaws.{semaphore_law}

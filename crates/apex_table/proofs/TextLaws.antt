@@ -10,19 +10,21 @@ use Rattle.apex_machine.specs.table.Table.{Table, ProcessConfig, SemaphoreConfig
 use Rattle.apex_types.specs.declared.calls.Origin.TheVariants as origin
 use Rattle.apex_calls.specs.CallText.{call_text, call_words, count_of, name_of, spaced}
 use Rattle.apex_calls.specs.declared.catalogue.Kind.TheVariants.{Process, Semaphore, Buffer, Blackboard, EventFlag, Mutex}
+use Rattle.apex_configs.proofs.KeptTexts.{name_anywhere}
 use Rattle.apex_table.specs.declared.fault.Section.TheVariants as sections
 use Rattle.apex_table.specs.declared.fault.TableFault.TheVariants.{BadInitStep}
 use Rattle.apex_table.specs.Terms.{Kind, Origin, Place, Profile, TableFault}
 use Rattle.apex_table.specs.Outcome.{place, Gives}
 use Rattle.apex_table.specs.Processes.{ProcessDraft, process_names}
-use Rattle.apex_table.specs.Objects.{Objects}
+use Rattle.apex_configs.specs.Objects.{Objects}
 use Rattle.apex_table.specs.Names.{Names, names_in, names_of}
 use Rattle.apex_table.specs.Steps.{of_word, step}
 use Rattle.apex_table.specs.StepTexts.{table_names, HasText, HaveTexts}
 use Rattle.apex_table.specs.Scripts.{script, next_entry, with_scripts}
 use Rattle.apex_table.specs.DefaultInit.{default_init}
 use Rattle.apex_table.specs.Init.{is_init_call, init_step, next_init_step, init_steps, init_list}
-use Rattle.apex_table.specs.Reading.{table_with, TableDraft, IsRead, with_steps}
+use Rattle.apex_configs.specs.Tables.{table_with}
+use Rattle.apex_table.specs.Reading.{TableDraft, IsRead, with_steps}
 use Rattle.apex_table.proofs.Results.{ok_then, ok_if, AllFrom, all_any, all_from_any, all_from_start, each_from}
 use Rattle.apex_table.proofs.Slots.{name_at}
 use Rattle.apex_table.proofs.StepLaws.{AreNamesOf, text_law}
@@ -32,11 +34,6 @@ use Rattle.apex_table.proofs.Returns.{IsWritten, found_name, created_written, st
 use Rattle.apex_table.proofs.Law.{lawful_of}
 
 -- the names of a table
-
-pub name_anywhere : {E N : Type 0} (name : E → List N) (default : E) → name default ≡ [] → (entries : List E) (i : ℕ) → slice_index_or (map name entries) i [] ≡ name (slice_index_or entries i default)
-name_anywhere name default bare [] i = sym bare
-name_anywhere name default bare (e ∷ entries) zero = refl
-name_anywhere name default bare (e ∷ entries) (suc i) = name_anywhere name default bare entries i
 
 module _ (table : Table) where
   name_same : (k : Kind) (i : ℕ) → name_at (table_names table) k i ≡ name_of table k i

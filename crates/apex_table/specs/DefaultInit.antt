@@ -5,7 +5,7 @@ use Rattle.apex_types.specs.Places.{map_places}
 use Rattle.apex_machine.specs.table.Table.{ProcessConfig, Step}
 use Rattle.apex_calls.specs.declared.catalogue.Kind.TheVariants as kinds
 use Rattle.apex_table.specs.Terms.{Call, Kind}
-use Rattle.apex_table.specs.Objects.{Objects}
+use Rattle.apex_configs.specs.Objects.{Objects}
 use Rattle.apex_types.specs.declared.calls.Call.TheVariants.{Partition, Process, Semaphore, Buffer, Blackboard, EventFlag, Mutex}
 use Rattle.apex_types.specs.declared.calls.RequestedMode.TheVariants.{Normal}
 use Rattle.apex_types.specs.declared.calls.PartitionCall.TheVariants.{SetPartitionMode}

@@ -13,7 +13,7 @@ use Rattle.apex_table.specs.Subjects.{whole, at_step}
 use Rattle.apex_table.specs.Outcome.{◌>>=◌, each, place}
 use Rattle.apex_table.specs.Keys.{text, array, at_most}
 use Rattle.apex_table.specs.Steps.{of_word, step}
-use Rattle.apex_table.specs.Objects.{Objects}
+use Rattle.apex_configs.specs.Objects.{Objects}
 use Rattle.apex_table.specs.Names.{Names}
 use Rattle.apex_table.specs.DefaultInit.{default_init}
 

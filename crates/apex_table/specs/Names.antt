@@ -8,7 +8,7 @@ use Rattle.apex_table.specs.Buffers.{buffer_names}
 use Rattle.apex_table.specs.Blackboards.{blackboard_names}
 use Rattle.apex_table.specs.EventFlags.{event_flag_names}
 use Rattle.apex_table.specs.Mutexes.{mutex_names}
-use Rattle.apex_table.specs.Objects.{Objects}
+use Rattle.apex_configs.specs.Objects.{Objects}
 
 -- the names of the things of each kind, in the order of the table
 pub record Names : Type 0 where

@@ -1,7 +1,7 @@
--- The objects of a table, kind by kind.
-use Rattle.std.specs.Prelude.{List, Result, Ok}
+-- The reading of the objects of a table, kind by kind.
+use Rattle.std.specs.Prelude.{Result, Ok}
 use Rattle.toml.specs.Data.{Members}
-use Rattle.apex_machine.specs.table.Table.{SemaphoreConfig, BufferConfig, BlackboardConfig, EventFlagConfig, MutexConfig}
+use Rattle.apex_configs.specs.Objects.{Objects}
 use Rattle.apex_table.specs.Terms.{TableFault}
 use Rattle.apex_table.specs.Outcome.{◌>>=◌}
 use Rattle.apex_table.specs.Sections.{section}
@@ -10,14 +10,6 @@ use Rattle.apex_table.specs.Buffers.{buffers}
 use Rattle.apex_table.specs.Blackboards.{blackboards}
 use Rattle.apex_table.specs.EventFlags.{event_flags}
 use Rattle.apex_table.specs.Mutexes.{mutexes}
-
--- the objects of each kind, in the order of the table
-pub record Objects : Type 0 where
-  pub semaphores : List SemaphoreConfig
-  pub buffers : List BufferConfig
-  pub blackboards : List BlackboardConfig
-  pub event_flags : List EventFlagConfig
-  pub mutexes : List MutexConfig
 
 -- the sections of objects, in the order of the checks
 unfoldable pub objects : Members → Result Objects TableFault

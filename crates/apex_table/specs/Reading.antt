@@ -14,7 +14,9 @@ use Rattle.apex_table.specs.Outcome.{◌>>=◌, some_or, place}
 use Rattle.apex_table.specs.Keys.{known, number_at, number_or, value_at}
 use Rattle.apex_table.specs.Sections.{section}
 use Rattle.apex_table.specs.Processes.{ProcessDraft, some_process, processes}
-use Rattle.apex_table.specs.Objects.{Objects, objects}
+use Rattle.apex_configs.specs.Objects.{Objects}
+use Rattle.apex_configs.specs.Tables.{table_with}
+use Rattle.apex_table.specs.Objects.{objects}
 use Rattle.apex_table.specs.Names.{names_of}
 use Rattle.apex_table.specs.Scripts.{with_scripts}
 use Rattle.apex_table.specs.Init.{init_texts, init_list}
@@ -25,21 +27,6 @@ top_keys =
     key.Profile ∷ key.Cores ∷ key.History ∷ key.Entries Process
     ∷ key.Entries Semaphore ∷ key.Entries Buffer ∷ key.Entries Blackboard ∷ key.Entries EventFlag
     ∷ key.Entries Mutex ∷ key.Entries Init ∷ []
-
--- the table of these parts
-abbrev pub table_with : Profile → ℕ → ℕ → List ProcessConfig → Objects → List Step → Table
-table_with profile cores limit processes objects init = record {
-  profile = profile;
-  cores = cores;
-  limit = limit;
-  processes = processes;
-  semaphores = objects.semaphores;
-  buffers = objects.buffers;
-  blackboards = objects.blackboards;
-  event_flags = objects.event_flags;
-  mutexes = objects.mutexes;
-  init = init;
-}
 
 -- a table whose steps are still texts
 pub record TableDraft : Type 0 where

@@ -1,6 +1,6 @@
 -- The text of a step: its call, as a line writes it, is the one text that is read as the step.
-use Rattle.std.specs.Prelude.{◌≡◌, ℕ, ◌+◌, ◌<◌, List, length, map, Option, option_map, Ok, slice_get}
-use Rattle.apex_machine.specs.table.Table.{Table, Step, ProcessConfig, SemaphoreConfig, BufferConfig, BlackboardConfig, EventFlagConfig, MutexConfig, process_config, step_at, IsLawful}
+use Rattle.std.specs.Prelude.{◌≡◌, ℕ, ◌+◌, ◌<◌, List, length, map, Ok}
+use Rattle.apex_machine.specs.table.Table.{Table, Step, ProcessConfig, SemaphoreConfig, BufferConfig, BlackboardConfig, EventFlagConfig, MutexConfig, process_config, step_at}
 use Rattle.apex_types.specs.declared.calls.Origin.TheVariants as origin
 use Rattle.apex_calls.specs.CallText.{call_text}
 use Rattle.apex_table.specs.declared.fault.Section.TheVariants.{Process, Init}
@@ -33,18 +33,3 @@ pub record HaveTexts (table : Table) : Type 0 where
       (step_at (process_config table p).script k)
   pub init : (k : ℕ) → k < length table.init
       → HasText table (place Init (k + 1)) (origin.Init k) (step_at table.init k)
-
--- the texts of the steps of a table's scripts
-abbrev pub script_texts : Table → List (List (List ℕ))
-script_texts table =
-    map (λ (p : ProcessConfig). map (λ (s : Step). call_text table s.call) p.script) table.processes
-
--- the text of the step at a place of a process's script, if there is such a step
-abbrev pub step_text : Table → ℕ → ℕ → Option (List ℕ)
-step_text table p k =
-    option_map (λ (s : Step). call_text table s.call) (slice_get (process_config table p).script k)
-
--- the table is lawful, and these are the texts of its scripts
-pub record IsWithTexts (texts : List (List (List ℕ))) (table : Table) : Type 0 where
-  pub lawful : IsLawful table
-  pub kept : texts ≡ script_texts table

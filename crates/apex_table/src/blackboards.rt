@@ -1,12 +1,12 @@
 //! The section of blackboards.
 ghost use Rattle.apex_table.specs.Blackboards.{blackboards};
 
-use crate::configs::BlackboardConfig;
 use crate::fault::{Place, Section, TableFault};
 use crate::key::Key;
 use crate::keys;
 use crate::named::Named;
 use crate::sections::{EntryKind, Head};
+use apex_configs::BlackboardConfig;
 use apex_types::{MOST_MESSAGE, MOST_OBJECTS, Name};
 use std::alloc::Global;
 use toml::Table;

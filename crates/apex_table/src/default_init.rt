@@ -4,9 +4,8 @@ ghost use Rattle.apex_types.specs.declared.limits.TheConstants.{MOST_OBJECTS, MO
 ghost use Rattle.apex_types.specs.Places.{map_places};
 ghost use Rattle.apex_table.specs.DefaultInit.{create, creates, creates_objects, default_init};
 
-use crate::configs::ProcessConfig;
-use crate::objects::Objects;
 use apex_calls::Kind;
+use apex_configs::{Objects, ProcessConfig};
 use apex_machine::Step;
 use apex_types::{
     Call, Id, Named, ObjectCall, PartitionCall, ProcessId, ProcessService, RequestedMode,

@@ -5,14 +5,13 @@ ghost use Rattle.toml.specs.View.{view};
 ghost use Rattle.apex_table.specs.Outcome.{Gives};
 ghost use Rattle.apex_table.specs.Init.{next_text, texts, given_texts, init_texts, is_init_call, init_step, next_init_step, init_steps, init_list};
 
-use crate::configs::ProcessConfig;
 use crate::default_init::default_init;
 use crate::fault::{Place, Section, TableFault};
 use crate::keys;
 use crate::names::Names;
-use crate::objects::Objects;
 use crate::steps::{of_word, step};
 use apex_calls::{parts_of, row_of};
+use apex_configs::{Objects, ProcessConfig};
 use apex_machine::Step;
 use apex_types::{Call, MOST_INIT_STEPS, Origin};
 use std::alloc::Global;

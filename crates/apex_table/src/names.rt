@@ -4,9 +4,9 @@ ghost use Rattle.apex_types.specs.declared.limits.TheConstants.{MOST_PROCESSES};
 ghost use Rattle.apex_table.specs.Names.{names_in, names_of};
 
 use crate::named::Named;
-use crate::objects::Objects;
 use crate::processes::Draft;
 use apex_calls::Kind;
+use apex_configs::Objects;
 use apex_types::Name;
 use std::alloc::{AllocError, Global};
 use std::marker::Model;

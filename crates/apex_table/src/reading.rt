@@ -11,12 +11,12 @@ use crate::init::{init_list, init_texts};
 use crate::key::Key;
 use crate::keys;
 use crate::names::Names;
-use crate::objects::Objects;
+use crate::objects::read_objects;
 use crate::processes::{Draft, Processes, some_process};
 use crate::scripts::with_scripts;
 use crate::sections::read_section;
-use crate::table::Table;
 use crate::texts::script_texts;
+use apex_configs::{Objects, Table};
 use apex_machine::Profile;
 use apex_types::{MOST_CORES, MOST_ENTRIES, MOST_PROFILE, USUAL_ENTRIES};
 use std::alloc::Global;
@@ -76,7 +76,7 @@ fn read_draft(alloc: Global, tree: &toml::Table) -> Result<TableDraft<'_>, Table
     let limit = keys::number_or(at, USUAL_ENTRIES, 1, MOST_ENTRIES, tree, Key::History)?;
     let processes = read_section(alloc, &Processes { profile, cores }, tree)?;
     some_process(&processes)?;
-    let objects = Objects::read(alloc, tree)?;
+    let objects = read_objects(alloc, tree)?;
     let init = init_texts(alloc, keys::value_at(tree, Key::Entries(Section::Init)))?;
     Ok(TableDraft {
         profile,

@@ -4,11 +4,11 @@ ghost use Rattle.apex_types.specs.declared.limits.TheConstants.{MOST_PROCESSES, 
 ghost use Rattle.apex_table.specs.Outcome.{Gives};
 ghost use Rattle.apex_table.specs.Scripts.{script, next_entry, with_scripts};
 
-use crate::configs::ProcessConfig;
 use crate::fault::{Place, Section, TableFault};
 use crate::names::Names;
 use crate::processes::Draft;
 use crate::steps::step;
+use apex_configs::ProcessConfig;
 use apex_machine::Step;
 use apex_types::{Origin, ProcessId};
 use std::alloc::Global;

@@ -15,6 +15,7 @@ ghost use Rattle.apex_views.specs.declared.showings.Listing.TheVariants.{Lines, 
 
 use crate::faults::first_fault;
 use crate::showings::Listing;
+use apex_configs::Table;
 use apex_console::{CliFault, Run};
 use apex_dispatch::{Kernel, events_in};
 use apex_history::{Counted, Page, Sink, print_history};
@@ -22,7 +23,6 @@ use apex_objects::{Form, ObjectLines, print_history_objects, print_listing_objec
 use apex_process::QueueStore;
 use apex_report::{Report, print_report, print_report_json, report_of};
 use apex_schedules::print_schedule;
-use apex_table::Table;
 use apex_types::Event;
 use std::alloc::Global;
 use std::io;

@@ -17,6 +17,7 @@ ghost use Rattle.apex_views.specs.Windows.{span_in};
 use crate::departures::{Departure, extent_of, marked};
 use crate::faults::first_fault;
 use crate::showings::Chart;
+use apex_configs::Table;
 use apex_console::{CliFault, booted, repeated};
 use apex_dispatch::{Kernel, events_in};
 use apex_history::{Counted, Sink};
@@ -24,7 +25,6 @@ use apex_pictures::{DrawFault, Excerpt, Frame, Style, TickLength, draw};
 use apex_process::QueueStore;
 use apex_schedules::Item;
 use apex_store::Store;
-use apex_table::Table;
 use apex_types::{Event, ProcessId};
 use std::alloc::{AllocError, Global};
 

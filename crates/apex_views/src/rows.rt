@@ -2,8 +2,8 @@
 ghost use Rattle.std.specs.Prelude.{◌≡◌, IfOk, option_map};
 ghost use Rattle.apex_views.specs.Rows.{chosen_said, places_named, rows_for, some_of};
 
+use apex_configs::Table;
 use apex_names::process_of;
-use apex_table::Table;
 use apex_types::{Name, ProcessId};
 use std::alloc::{AllocError, Global};
 

@@ -3,8 +3,8 @@
 ghost use Rattle.std.specs.Prelude.{◌≡◌};
 ghost use Rattle.apex_machine.specs.table.Table.{blackboard_config, buffer_config, mutex_config, process_config, semaphore_config};
 
+use apex_configs::Table;
 use apex_machine::Attributes;
-use apex_table::Table;
 use apex_types::{BlackboardId, BufferId, DeadlineType, MutexId, ProcessId, SemaphoreId};
 
 /// The attributes of the process.

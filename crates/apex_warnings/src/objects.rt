@@ -3,8 +3,9 @@ ghost use Rattle.std.specs.Prelude.{◌≡◌, ◌≤◌};
 ghost use Rattle.apex_types.specs.declared.limits.TheConstants.{MOST_OBJECTS};
 ghost use Rattle.apex_warnings.specs.Objects.{group_count, group_queue, group_section};
 
+use apex_configs::Table;
 use apex_machine::Queue;
-use apex_table::{Section, Table};
+use apex_table::Section;
 use apex_types::{BlackboardId, BufferId, EventId, MutexId, SemaphoreId};
 
 /// The objects of one kind.

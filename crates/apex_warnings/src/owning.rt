@@ -7,8 +7,8 @@ ghost use Rattle.apex_warnings.specs.Owning.{acquired, depth_after, is_refused_t
 
 use crate::entries::{attributes, ceiling};
 use crate::steps::{StepCall, TableSteps};
+use apex_configs::Table;
 use apex_machine::{Holding, Holdings};
-use apex_table::Table;
 use apex_types::{
     BlackboardService, BufferService, Call, CallerCall, EventFlagService, MOST_DEPTH, MutexId,
     MutexService, ObjectCall, ProcessId, SemaphoreService, TimeCall, Timeout,

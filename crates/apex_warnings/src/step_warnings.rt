@@ -7,7 +7,7 @@ use crate::acts::{Act, is_taken};
 use crate::entries::{attributes, blackboard_length, buffer_length, ceiling, initial};
 use crate::owning::{is_released, waits_as_owner};
 use crate::steps::{StepCall, TableSteps};
-use apex_table::Table;
+use apex_configs::Table;
 use apex_types::{
     BlackboardService, BufferService, Call, CallerCall, EventFlagService, MutexService, ObjectCall,
     ProcessId, ProcessService, SemaphoreService, TimeCall,

@@ -6,7 +6,7 @@ ghost use Rattle.apex_warnings.specs.Acts.{does};
 ghost use Rattle.apex_warnings.specs.Calls.{any_step, calls_of, init_calls, script, scripts};
 
 use crate::acts::Act;
-use apex_table::{ProcessConfig, Table};
+use apex_configs::{ProcessConfig, Table};
 use apex_types::{Call, MOST_INIT_STEPS, ProcessId};
 use std::alloc::{AllocError, Global};
 use std::marker::Model;

@@ -7,7 +7,7 @@ use crate::objects::Group;
 use crate::process_warnings::ProcessWarning;
 use crate::step_warnings::StepWarning;
 use crate::steps::TableSteps;
-use apex_table::Table;
+use apex_configs::Table;
 use apex_types::{CoreId, Origin, ProcessId};
 use std::alloc::{AllocError, Global};
 

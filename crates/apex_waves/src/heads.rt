@@ -10,7 +10,7 @@ use crate::kinds::{Kind, SCOPE_WORD_ROOM};
 use crate::names::{CODE_ROOM, NAME_ROOM, put_code, put_signal_name};
 use crate::sheets::Sheet;
 use crate::signals::Signal;
-use apex_table::Table;
+use apex_configs::Table;
 use apex_types::MOST_PROCESSES;
 
 /// The most bytes of a type.

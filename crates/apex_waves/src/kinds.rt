@@ -5,7 +5,7 @@ ghost use Rattle.apex_waves.specs.Kinds.{count_of, scope_word, signal_at};
 ghost use Rattle.apex_waves.specs.declared.kinds.TheConstants.{SCOPE_WORD_ROOM};
 
 use crate::signals::Signal;
-use apex_table::Table;
+use apex_configs::Table;
 use apex_types::{BlackboardId, BufferId, CoreId, EventId, MutexId, ProcessId, SemaphoreId};
 
 /// The most bytes of the name of a scope.

@@ -9,7 +9,7 @@ ghost use Rattle.apex_waves.specs.declared.sheets.TheConstants.{SHEET_ROOM};
 
 use crate::sheets::Sheet;
 use crate::signals::Signal;
-use apex_table::Table;
+use apex_configs::Table;
 use apex_types::{BlackboardId, BufferId, EventId, MOST_NAME, MutexId, ProcessId, SemaphoreId};
 use itoa::Buffer;
 

@@ -7,7 +7,7 @@ ghost use Rattle.apex_waves.specs.Signals.{signals_of};
 ghost use Rattle.apex_waves.specs.declared.signals.TheConstants.{MOST_SIGNALS};
 
 use crate::kinds::Kind;
-use apex_table::Table;
+use apex_configs::Table;
 use apex_types::{
     BlackboardId, BufferId, CoreId, EventId, MOST_CORES, MOST_OBJECTS, MOST_PROCESSES, MutexId,
     ProcessId, SemaphoreId,

@@ -14,9 +14,9 @@ use crate::names::{
 };
 use crate::sheets::Sheet;
 use crate::signals::{MOST_SIGNALS, Signal};
+use apex_configs::Table;
 use apex_dispatch::Kernel;
 use apex_store::Store;
-use apex_table::Table;
 use apex_types::{ProcessId, State};
 
 /// The most bytes of a level.

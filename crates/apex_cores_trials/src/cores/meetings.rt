@@ -3,9 +3,10 @@ ghost use Rattle.std.specs.Prelude.{◌≡◌, None, length};
 ghost use Rattle.apex_receipts.specs.Receipts.{IsNamedAfter};
 
 use crate::closings::entry_count;
+use apex_configs::Table;
 use apex_cores::{Gate, RunFault, RunPlan, run_partition};
 use apex_partition::{Closed, Naming, Opened};
-use apex_table::{Table, read_table};
+use apex_table::read_table;
 use apex_types::{CoreId, ProcessId};
 use crossbeam_utils::Backoff;
 use std::alloc::Global;

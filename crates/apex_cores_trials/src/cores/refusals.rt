@@ -4,9 +4,10 @@ ghost use Rattle.apex_receipts.specs.Receipts.{IsNamedAfter};
 
 use super::gates::Counter;
 use crate::closings::entry_count;
+use apex_configs::Table;
 use apex_cores::{RunFault, RunPlan, Starts, run_partition_with};
 use apex_partition::{Closed, Naming, Opened};
-use apex_table::{Table, read_table};
+use apex_table::read_table;
 use std::alloc::Global;
 use std::marker::Brand;
 use std::process::Abort;

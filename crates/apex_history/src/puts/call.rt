@@ -12,7 +12,7 @@ use super::message::put_message;
 use super::{CALL_ROOM, Lines, put, put_bytes, put_name, put_number, put_timeout};
 use crate::steps::NextSteps;
 use apex_calls::{Arguments, Kind, Shape, parts_of, row_of};
-use apex_table::Table;
+use apex_configs::Table;
 use apex_types::{Call, Caller, Id, Name, Named, RequestedMode};
 
 fn mode_name(mode: &RequestedMode) -> &'static str

@@ -7,7 +7,7 @@ ghost use Rattle.apex_types.specs.declared.limits.TheConstants.{MOST_LITERAL};
 ghost use Rattle.apex_machine.specs.text.Texts.{byte_text, bytes_text, message_text};
 
 use super::{Lines, put, put_bytes};
-use apex_table::Table;
+use apex_configs::Table;
 use apex_types::Message;
 
 /// A hexadecimal digit.

@@ -8,8 +8,8 @@ ghost use Rattle.apex_machine.specs.text.Status as status;
 
 use super::message::put_message;
 use super::{Lines, put, put_id, put_long_number, put_name};
+use apex_configs::Table;
 use apex_machine::{Holding, Holdings, Record, Suspender, Wait};
-use apex_table::Table;
 use apex_types::{Id, Message, Mode, Name, ProcessId, State};
 
 pub(super) fn mode_word(mode: &Mode) -> &'static str

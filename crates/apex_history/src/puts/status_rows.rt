@@ -12,8 +12,8 @@ use super::status::{
 };
 use super::{Lines, put, put_long_number, put_number};
 use crate::status_rows::StatusRow;
+use apex_configs::Table;
 use apex_machine::Record;
-use apex_table::Table;
 use apex_types::{
     BlackboardId, BufferId, CoreId, EventId, Message, Mode, MutexId, ProcessId, SemaphoreId, State,
 };

@@ -2,10 +2,11 @@ use Rattle.std.proofs.Common.{◌≡◌, ◌∙◌, Ok, map, refl, sym, ap, subs
 use Rattle.apex_machine.specs.table.Table.{IsLawful}
 use Rattle.apex_table.specs.Names.{names_of}
 use Rattle.apex_table.specs.Processes.{ProcessDraft}
-use Rattle.apex_table.specs.StepTexts.{IsWithTexts}
+use Rattle.apex_configs.specs.Texts.{IsWithTexts}
 use Rattle.apex_table.specs.Scripts.{with_scripts}
 use Rattle.apex_table.specs.Init.{init_list}
-use Rattle.apex_table.specs.Reading.{TableDraft, with_steps, table_with}
+use Rattle.apex_configs.specs.Tables.{table_with}
+use Rattle.apex_table.specs.Reading.{TableDraft, with_steps}
 use Rattle.apex_table.proofs.KeptTexts.{kept_texts}
 use Rattle.apex_table.proofs.Law.{lawful_of}
 use Rattle.apex_table.proofs.reading.with_steps.Goals as goal

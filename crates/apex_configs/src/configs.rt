@@ -35,7 +35,7 @@ impl Model for ProcessConfig {
 }
 
 impl ProcessConfig {
-    pub(crate) fn new(
+    pub fn new(
         name: Name,
         attributes: Attributes,
         core: CoreId,
@@ -142,12 +142,7 @@ impl Model for SemaphoreConfig {
 }
 
 impl SemaphoreConfig {
-    pub(crate) fn new(
-        name: Name,
-        maximum: u16,
-        initial: u16,
-        discipline: Discipline,
-    ) -> SemaphoreConfig
+    pub fn new(name: Name, maximum: u16, initial: u16, discipline: Discipline) -> SemaphoreConfig
         ensures { result ≡ record {
           name = name;
           maximum = maximum;
@@ -214,7 +209,7 @@ impl Model for BufferConfig {
 }
 
 impl BufferConfig {
-    pub(crate) fn new(name: Name, length: u8, capacity: u8, discipline: Discipline) -> BufferConfig
+    pub fn new(name: Name, length: u8, capacity: u8, discipline: Discipline) -> BufferConfig
         ensures { result ≡ record {
           name = name;
           length = length;
@@ -274,7 +269,7 @@ impl Model for BlackboardConfig {
 }
 
 impl BlackboardConfig {
-    pub(crate) fn new(name: Name, length: u8) -> BlackboardConfig
+    pub fn new(name: Name, length: u8) -> BlackboardConfig
         ensures { result ≡ record { name = name; length = length } }
     {
         BlackboardConfig { name, length }
@@ -309,7 +304,7 @@ impl Model for EventFlagConfig {
 }
 
 impl EventFlagConfig {
-    pub(crate) fn new(name: Name) -> EventFlagConfig
+    pub fn new(name: Name) -> EventFlagConfig
         ensures { result ≡ record { name = name } }
     {
         EventFlagConfig { name }
@@ -339,7 +334,7 @@ impl Model for MutexConfig {
 }
 
 impl MutexConfig {
-    pub(crate) fn new(name: Name, ceiling: u8, discipline: Discipline) -> MutexConfig
+    pub fn new(name: Name, ceiling: u8, discipline: Discipline) -> MutexConfig
         ensures { result ≡ record { name = name; ceiling = ceiling; discipline = discipline } }
     {
         MutexConfig {

@@ -2,15 +2,15 @@
 ghost use Rattle.std.specs.Prelude.{◌≡◌, ◌<◌, ◌≤◌, length, option_map, slice_get};
 ghost use Rattle.apex_types.specs.declared.limits.TheConstants.{MOST_CORES, MOST_ENTRIES, MOST_LITERAL, MOST_OBJECTS, MOST_PROCESSES};
 ghost use Rattle.apex_machine.specs.table.Table.{IsLawful, process_config, semaphore_config, buffer_config, blackboard_config, event_flag_config, mutex_config, call_in, literal_text};
-ghost use Rattle.apex_table.specs.Reading.{table_with};
-ghost use Rattle.apex_table.specs.StepTexts.{step_text, IsWithTexts};
+ghost use Rattle.apex_configs.specs.Tables.{table_with};
+ghost use Rattle.apex_configs.specs.Texts.{step_text, IsWithTexts};
 
 use crate::configs::{
     BlackboardConfig, BufferConfig, EventFlagConfig, MutexConfig, ProcessConfig, SemaphoreConfig,
 };
 use crate::listed::{call_in, literal_in};
 use crate::objects::Objects;
-use crate::texts::ScriptTexts;
+use crate::script_texts::ScriptTexts;
 use apex_machine::{Profile, Step};
 use apex_types::{BlackboardId, BufferId, Call, EventId, MutexId, Origin, ProcessId, SemaphoreId};
 use std::marker::Model;
@@ -44,8 +44,8 @@ impl Drop for Table {
 
 impl Model for Table {
     ghost use Rattle.apex_machine.specs.table.Table.{Table};
-    ghost use Rattle.apex_table.specs.Reading.{table_with};
-    ghost use Rattle.apex_table.specs.StepTexts.{IsWithTexts};
+    ghost use Rattle.apex_configs.specs.Tables.{table_with};
+    ghost use Rattle.apex_configs.specs.Texts.{IsWithTexts};
 
     ghost Value = { Table };
 
@@ -57,7 +57,8 @@ impl Model for Table {
 }
 
 impl Table {
-    pub(crate) fn new(
+    /// The table of these parts.
+    pub fn new(
         profile: Profile,
         cores: u8,
         limit: u32,

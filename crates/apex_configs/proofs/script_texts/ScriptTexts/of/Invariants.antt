@@ -1,5 +1,5 @@
 use Rattle.std.proofs.Common.{◌≡◌, map, take}
-use Rattle.apex_table.proofs.texts.ScriptTexts.of.Given as goal
+use Rattle.apex_configs.proofs.script_texts.ScriptTexts.of.Given as goal
 
 abbrev pub invariant-loop-text : goal.invariant-loop-text
 invariant-loop-text l = record {
