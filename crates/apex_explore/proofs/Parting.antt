@@ -4,7 +4,6 @@ use Rattle.std.proofs.lemmas.Bool.{cases_lt}
 use Rattle.std.proofs.lemmas.Option.{same_Some, slice_get-get_or, slice_get_within}
 use Rattle.std.specs.List.{slice_get}
 use Rattle.std.specs.Prelude.{IfSome}
-use Rattle.apex_states.specs.Batches.{Copies}
 use Rattle.apex_states.specs.Finds.{AreKept, AreThere, Found, GoesOnWith, IsFind}
 use Rattle.apex_states.specs.Index.{IsKnown}
 use Rattle.apex_states.specs.Lists.{AllAre, IsFront}
@@ -15,8 +14,8 @@ use Rattle.apex_explore.specs.declared.fronts.Front.{Front}
 use Rattle.apex_explore.specs.declared.parts.Expansion.{Expansion}
 use Rattle.apex_explore.specs.declared.search.Stop.{Stop}
 use Rattle.apex_explore.specs.declared.search.Stop.TheVariants as stops
-use Rattle.apex_explore.specs.Levels.{IsAt, IsChild, IsLevel, Keeps, Stops}
-use Rattle.apex_explore.specs.Parts.{Ends, Expanded, Fit, FitsOne, Follows, GrowsBy, IsExpansion, IsFrom, IsPast, Stands}
+use Rattle.apex_explore.specs.Levels.{IsAmong, IsAt, IsChild, IsLevel, Keeps, Stops}
+use Rattle.apex_explore.specs.Parts.{Ends, Fit, FitsOne, Follows, GrowsBy, IsExpansion, IsFilling, IsMet, IsPast, Stands}
 use Rattle.apex_explore.specs.Systems.{Step, refuses, goes, hits}
 use Rattle.apex_explore.proofs.Levels.{IsAmong-widen, IsTraced-widen, Keeps-widen}
 
@@ -61,79 +60,37 @@ module _ {K : Type 0} (step : K → ℕ → Step K) where
 
 -- What the states that are kept leave.
 
--- a step that goes on to a state that was found goes on to one that is there
-Keeps-there : (found states : List (List ℕ)) (taken : Step (List ℕ))
-    → ((place : ℕ) (k : List ℕ) → slice_get found place ≡ Some k → IsKnown states k)
-    → Keeps found taken → Keeps states taken
-Keeps-there found states refuses there kept = kept
-Keeps-there found states (goes n) there kept =
-    let known = there kept.place n kept.is in
-    record { place = known.0; within = slice_get_within states known.0 n known.1; is = known.1 }
-Keeps-there found states hits there kept = kept
+module _ (found old new : List (List ℕ)) (front : IsFront old new) (there : (place : ℕ) (k : List ℕ) → slice_get found place ≡ Some k → IsKnown new k) where
+  is_there : (n : List ℕ) → IsKnown new n → IsAmong new (length new) n
+  is_there n known = record { place = known.0; within = slice_get_within new known.0 n known.1; is = known.1 }
 
-done_within : (step : List ℕ → ℕ → Step (List ℕ)) (states : List (List ℕ)) (done : ℕ) (hit : Option ℕ) → Ends step states done hit → done ≤ length states
-done_within step states done None ends = omega (arith, ends)
-done_within step states done (Some choice) ends = omega (arith, slice_get_within states done ends.0 ends.1)
+  -- a step that is met goes on to a state that is there once those that were found are
+  Keeps-met : (taken : Step (List ℕ)) → IsMet old found taken → Keeps new taken
+  Keeps-met refuses met = met
+  Keeps-met (goes n) (inl (place, is)) = is_there n (place, front.same place n is)
+  Keeps-met (goes n) (inr (place, is)) = is_there n (there place n is)
+  Keeps-met hits met = met
 
 module _ (step : List ℕ → ℕ → Step (List ℕ)) (is_state : List ℕ → Type 0) (from limit : ℕ) (old : Reached) (expansion : Expansion)
-    (expanded : Expanded step is_state old from limit expansion) where
-  abbrev copies : Copies
-  copies = expanded.copies
-
-  -- an expansion ends at most at its limit
-  end_within : (from ≤ expansion.end) × (expansion.end ≤ limit)
-  end_within =
-      let done = done_within step copies.states expanded.is.done expansion.hit expanded.is.ends in
-      (omega (arith, expanded.is.end, expanded.copied.first), omega (arith, done, expanded.is.end, expanded.copied.first, expanded.copied.whole))
-
-  -- a state that was found is a child
-  found_child : (n : List ℕ) (origin : Origin) → IsFrom step copies n origin
-      → (from ≤ origin.parent) × (origin.parent < limit)
-      × ((p : List ℕ) × (slice_get old.states origin.parent ≡ Some p) × (step p origin.choice ≡ goes n))
-  found_child n origin is_from =
-      let short = slice_get_within copies.states is_from.at is_from.k is_from.is in
-      let place : origin.parent ≡ from + is_from.at = omega (arith, is_from.place, expanded.copied.first) in
-      let there = expanded.copied.same is_from.at is_from.k is_from.is in
-      (omega (arith, place), omega (arith, place, short, expanded.copied.whole), (is_from.k, ap (slice_get old.states) place ∙ there, is_from.leads))
-
+    (expanded : IsExpansion step is_state old from limit expansion) where
   -- what was found has an origin
   origin_at : (at : ℕ) (n : List ℕ) → slice_get expansion.finds.states at ≡ Some n → (origin : Origin) × IsFind expansion.finds at n origin
   origin_at at n is =
       let nowhere : Origin = record { parent = 0; choice = 0 } in
       let short = slice_get_within expansion.finds.states at n is in
-      let origin_is = slice_get-get_or expansion.finds.origins at nowhere (omega (arith, short, expanded.is.filling.paired)) in
+      let origin_is = slice_get-get_or expansion.finds.origins at nowhere (omega (arith, short, expanded.filling.paired)) in
       (get_or expansion.finds.origins at nowhere, record { state = is; origin = origin_is })
 
-  pub find_parents : (place : ℕ) (origin : Origin) → slice_get expansion.finds.origins place ≡ Some origin → origin.parent < length old.states
-  find_parents place origin is =
-      let short = slice_get_within expansion.finds.origins place origin is in
-      let n = get_or expansion.finds.states place [] in
-      let state = slice_get-get_or expansion.finds.states place [] (omega (arith, short, expanded.is.filling.paired)) in
-      let child = found_child n origin (expanded.is.finds.from place n origin (record { state = state; origin = is })) in
-      slice_get_within old.states origin.parent child.2.0 child.2.1
-
-  -- a state that is done is one of the copies
-  copy_at : (place : ℕ) (k : List ℕ) → from ≤ place → place < expansion.end → slice_get old.states place ≡ Some k
-      → (place - from < expanded.is.done) × (slice_get copies.states (place - from) ≡ Some k)
-  copy_at place k above below is =
-      let done = done_within step copies.states expanded.is.done expansion.hit expanded.is.ends in
-      let before : place - from < expanded.is.done = omega (arith, above, below, expanded.is.end, expanded.copied.first) in
-      let n = get_or copies.states (place - from) [] in
-      let copy = slice_get-get_or copies.states (place - from) [] (omega (arith, before, done)) in
-      let same : from + (place - from) ≡ place = omega arith in
-      let there : slice_get old.states place ≡ Some n = ap (slice_get old.states) (sym same) ∙ expanded.copied.same (place - from) n copy in
-      (before, copy ∙ ap Some (same_Some n k (sym there ∙ is)))
-
 module _ (step : List ℕ → ℕ → Step (List ℕ)) (is_state : List ℕ → Type 0) (from limit : ℕ) (old new : Reached) (expansion : Expansion)
-    (expanded : Expanded step is_state old from limit expansion)
+    (expanded : IsExpansion step is_state old from limit expansion)
     (goes_on : GoesOnWith expansion.finds old new) where
   children_kept : (child : ℕ) → length old.states ≤ child → child < length new.states
       → (parent : ℕ) × (from ≤ parent) × (parent < limit) × IsChild step new.states new.origins parent child
   children_kept child far near =
       let (at, k, origin, find, state_is, origin_is) = goes_on.added child far near in
-      let (above, below, (p, there, leads)) = found_child step is_state from limit old expansion expanded k origin (expanded.is.finds.from at k origin find) in
-      let now = goes_on.states_front.same origin.parent p there in
-      (origin.parent, above, below, record { from = p; to = k; choice = origin.choice; origin = origin_is; from_is = now; to_is = state_is; leads = leads })
+      let child = expanded.finds.from at k origin find in
+      let now = goes_on.states_front.same origin.parent child.k child.is in
+      (origin.parent, child.above, child.below, record { from = child.k; to = k; choice = origin.choice; origin = origin_is; from_is = now; to_is = state_is; leads = child.leads })
 
   -- each child of the states of the part is kept
   GrowsBy-kept : AreThere expansion.finds new true → GrowsBy step from expansion.end limit old.states old.origins new.states new.origins
@@ -143,8 +100,7 @@ module _ (step : List ℕ → ℕ → Step (List ℕ)) (is_state : List ℕ → 
     paired = goes_on.paired;
     children = children_kept;
     done = λ place k choice above below is.
-        let copy = copy_at step is_state from limit old expansion expanded place k above below is in
-        Keeps-there expansion.finds.states new.states (step k choice) there (expanded.is.finds.whole (place - from) k choice copy.0 copy.1);
+        Keeps-met expansion.finds.states old.states new.states goes_on.states_front there (step k choice) (expanded.finds.whole place k choice above below is);
   }
 
   -- some children are kept
@@ -173,36 +129,28 @@ module _ (step : List ℕ → ℕ → Step (List ℕ)) (is_state : List ℕ → 
     (level : IsAt step first old front)
     (fits : FitsOne step is_state old front expansion)
     (goes_on : GoesOnWith expansion.finds old new) where
-  within : (front.at ≤ expansion.end) × (expansion.end ≤ fits.limit)
-  within = end_within step is_state front.at fits.limit old expansion fits.expanded
-
   -- there is no room for one
   taken_some : IsAt step first new front
   taken_some = IsLevel-part step first old.states old.origins new.states new.origins front.at front.at fits.limit front.depth front.level_end
-      (omega arith) (omega (arith, within.0, within.1)) fits.level level (GrowsBy-some step is_state front.at fits.limit old new expansion fits.expanded goes_on)
+      (omega arith) (omega (arith, fits.expanded.first, fits.expanded.last)) fits.level level (GrowsBy-some step is_state front.at fits.limit old new expansion fits.expanded goes_on)
 
   taken_over : AreThere expansion.finds new false → Stops step new front stops.Over
   taken_over (at, n, is, unknown, full) =
       let (origin, find) = origin_at step is_state front.at fits.limit old expansion fits.expanded at n is in
-      let (above, below, (p, there, leads)) = found_child step is_state front.at fits.limit old expansion fits.expanded n origin (fits.expanded.is.finds.from at n origin find) in
-      let now = goes_on.states_front.same origin.parent p there in
-      (origin.parent, above, omega (arith, below, fits.level), (p, n, origin.choice, now, leads, unknown, full))
+      let child = fits.expanded.finds.from at n origin find in
+      let now = goes_on.states_front.same origin.parent child.k child.is in
+      (origin.parent, child.above, omega (arith, child.below, fits.level), (child.k, n, origin.choice, now, child.leads, unknown, full))
 
   -- all are kept
   taken_all : AreThere expansion.finds new true → IsAt step first new (record front { at = expansion.end })
   taken_all there = IsLevel-part step first old.states old.origins new.states new.origins front.at expansion.end fits.limit front.depth front.level_end
-      within.0 within.1 fits.level level (GrowsBy-kept step is_state front.at fits.limit old new expansion fits.expanded goes_on there)
+      fits.expanded.first fits.expanded.last fits.level level (GrowsBy-kept step is_state front.at fits.limit old new expansion fits.expanded goes_on there)
 
   taken_struck : (choice : ℕ) → expansion.hit ≡ Some choice → Stops step new (record front { at = expansion.end }) (stops.Struck choice)
   taken_struck choice hit =
-      let copied = fits.expanded.copied in
-      let made = fits.expanded.is in
-      let Is : Option ℕ → Type 0 = λ h. Ends step fits.expanded.copies.states made.done h in
-      let (k, is, hit_is) = subst Is hit made.ends in
-      let short = slice_get_within fits.expanded.copies.states made.done k is in
-      let e : expansion.end ≡ front.at + made.done = omega (arith, made.end, copied.first) in
-      let there : slice_get old.states expansion.end ≡ Some k = ap (slice_get old.states) e ∙ copied.same made.done k is in
-      (omega (arith, e, short, copied.whole, fits.level), (k, goes_on.states_front.same expansion.end k there, hit_is))
+      let Is : Option ℕ → Type 0 = λ h. Ends step old.states fits.limit expansion.end h in
+      let (short, k, is, hit_is) = subst Is hit fits.expanded.ends in
+      (omega (arith, short, fits.level), (k, goes_on.states_front.same expansion.end k is, hit_is))
 
 module _ (step : List ℕ → ℕ → Step (List ℕ)) (is_state : List ℕ → Type 0) (first : List ℕ) (word_count : ℕ) (old new : Reached) (front : Front) (expansion : Expansion)
     (stands : Stands step is_state first word_count old front)
@@ -213,7 +161,7 @@ module _ (step : List ℕ → ℕ → Step (List ℕ)) (is_state : List ℕ → 
     stands = record {
       level = level;
       width = goes_on.width ∙ stands.width;
-      states = AllAre-kept is_state expansion.finds old new goes_on stands.states fits.expanded.is.filling.states;
+      states = AllAre-kept is_state expansion.finds old new goes_on stands.states fits.expanded.filling.states;
     };
     stops = stops;
     states_front = goes_on.states_front;
@@ -232,18 +180,35 @@ module _ (step : List ℕ → ℕ → Step (List ℕ)) (is_state : List ℕ → 
 
 -- Expansions, one after the other.
 
+-- a step that is met stays met
+IsMet-later : (old new found : List (List ℕ)) (taken : Step (List ℕ)) → IsFront old new → IsMet old found taken → IsMet new found taken
+IsMet-later old new found refuses front met = met
+IsMet-later old new found (goes n) front (inl (place, is)) = inl (place, front.same place n is)
+IsMet-later old new found (goes n) front (inr is) = inr is
+IsMet-later old new found hits front met = met
+
+Ends-later : (step : List ℕ → ℕ → Step (List ℕ)) (old new : List (List ℕ)) (limit done : ℕ) (hit : Option ℕ) → IsFront old new → Ends step old limit done hit → Ends step new limit done hit
+Ends-later step old new limit done None front ends = ends
+Ends-later step old new limit done (Some choice) front (short, k, is, hit_is) = (short, k, front.same done k is, hit_is)
+
 -- an expansion of states that stay there
-pub Expanded-later : (step : List ℕ → ℕ → Step (List ℕ)) (is_state : List ℕ → Type 0) (from limit : ℕ) (old new : Reached) (expansion : Expansion)
-    → IsFront old.states new.states → new.width ≡ old.width → Expanded step is_state old from limit expansion → Expanded step is_state new from limit expansion
-Expanded-later step is_state from limit old new expansion front width expanded = record {
-  copies = expanded.copies;
-  copied = record {
-    first = expanded.copied.first;
-    width = expanded.copied.width ∙ sym width;
-    whole = expanded.copied.whole;
-    same = λ at k is. front.same (from + at) k (expanded.copied.same at k is);
+pub IsExpansion-later : (step : List ℕ → ℕ → Step (List ℕ)) (is_state : List ℕ → Type 0) (from limit : ℕ) (old new : Reached) (expansion : Expansion)
+    → IsFront old.states new.states → new.width ≡ old.width → IsExpansion step is_state old from limit expansion → IsExpansion step is_state new from limit expansion
+IsExpansion-later step is_state from limit old new expansion front width expanded = record {
+  first = expanded.first;
+  last = expanded.last;
+  within = omega (arith, expanded.within, front.longer);
+  finds = record {
+    from = λ at n origin find.
+        let child = expanded.finds.from at n origin find in
+        record { above = child.above; below = child.below; k = child.k; is = front.same origin.parent child.k child.is; leads = child.leads };
+    whole = λ place k choice above below is.
+        let short : place < length old.states = omega (arith, below, expanded.last, expanded.within) in
+        let was = at_old_place old.states new.states place k front short is in
+        IsMet-later old.states new.states expansion.finds.states (step k choice) front (expanded.finds.whole place k choice above below was);
   };
-  is = subst (λ n. IsExpansion step n is_state expanded.copies expansion) (sym width) expanded.is;
+  filling = subst (λ n. IsFilling n is_state expansion.finds) (sym width) expanded.filling;
+  ends = Ends-later step old.states new.states limit expansion.end expansion.hit front expanded.ends;
 }
 
 -- the expansions from `place` on fit
@@ -253,7 +218,7 @@ pub record IsTaking (step : List ℕ → ℕ → Step (List ℕ)) (is_state : Li
   pub last : start (length expansions) ≡ limit
   pub within : (at : ℕ) → start at ≤ limit
   pub level : limit ≤ front.level_end
-  pub each : (at : ℕ) (expansion : Expansion) → slice_get expansions at ≡ Some expansion → Expanded step is_state reached (start at) (start (at + 1)) expansion
+  pub each : (at : ℕ) (expansion : Expansion) → slice_get expansions at ≡ Some expansion → IsExpansion step is_state reached (start at) (start (at + 1)) expansion
 
 pub IsTaking-start : (step : List ℕ → ℕ → Step (List ℕ)) (is_state : List ℕ → Type 0) (reached : Reached) (front : Front) (limit : ℕ) (expansions : List Expansion)
     → Fit step is_state reached front limit expansions → IsTaking step is_state reached front limit expansions 0
@@ -264,7 +229,7 @@ module _ (step : List ℕ → ℕ → Step (List ℕ)) (is_state : List ℕ → 
   pub IsTaking-one : (expansion : Expansion) → slice_get expansions place ≡ Some expansion → FitsOne step is_state reached front expansion
   IsTaking-one expansion is = record {
     limit = taking.start (place + 1);
-    expanded = subst (λ n. Expanded step is_state reached n (taking.start (place + 1)) expansion) taking.here (taking.each place expansion is);
+    expanded = subst (λ n. IsExpansion step is_state reached n (taking.start (place + 1)) expansion) taking.here (taking.each place expansion is);
     level = omega (arith, taking.within (place + 1), taking.level);
   }
 
@@ -272,15 +237,15 @@ module _ (step : List ℕ → ℕ → Step (List ℕ)) (is_state : List ℕ → 
       → IsPast expansion.end front past → expansion.hit ≡ None → IsTaking step is_state new past limit expansions (place + 1)
   IsTaking-next expansion new past is states_front width passed none =
       let expanded = taking.each place expansion is in
-      let Is : Option ℕ → Type 0 = λ h. Ends step expanded.copies.states expanded.is.done h in
-      let all : expanded.is.done ≡ length expanded.copies.states = subst Is none expanded.is.ends in
+      let Is : Option ℕ → Type 0 = λ h. Ends step reached.states (taking.start (place + 1)) expansion.end h in
+      let all : expansion.end ≡ taking.start (place + 1) = subst Is none expanded.ends in
       record {
         start = taking.start;
-        here = omega (arith, passed.at, expanded.is.end, all, expanded.copied.first, expanded.copied.whole);
+        here = omega (arith, passed.at, all);
         last = taking.last;
         within = taking.within;
         level = omega (arith, taking.level, passed.level);
-        each = λ at other there. Expanded-later step is_state (taking.start at) (taking.start (at + 1)) reached new other states_front width (taking.each at other there);
+        each = λ at other there. IsExpansion-later step is_state (taking.start at) (taking.start (at + 1)) reached new other states_front width (taking.each at other there);
       }
 
   pub IsTaking-end : place ≡ length expansions → front.at ≡ limit

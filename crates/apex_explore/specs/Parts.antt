@@ -1,7 +1,7 @@
 -- Parts of a level: what the choices in the states of a part do.
 use Rattle.std.specs.Prelude.{◌≡◌, ℕ, ◌+◌, ◌<◌, ◌≤◌, ◌⊎◌, List, length, Option, None, Some, IfSome, slice_get}
-use Rattle.apex_states.specs.Batches.{Copies, IsCopied}
 use Rattle.apex_states.specs.Finds.{Found, IsFind}
+use Rattle.apex_states.specs.Index.{IsKnown}
 use Rattle.apex_states.specs.Lists.{AllAre, IsFront}
 use Rattle.apex_states.specs.States.{Reached}
 use Rattle.apex_states.specs.declared.states.Origin.{Origin}
@@ -36,56 +36,56 @@ pub record FindsMore (step : List ℕ → ℕ → Step (List ℕ)) (place : ℕ)
   pub added : (at : ℕ) (n : List ℕ) (origin : Origin) → IsFind new at n origin
       → IsFind old at n origin ⊎ ((origin.parent ≡ place) × (step k origin.choice ≡ goes n))
 
--- what came of the choices in the state k: all go on to states that are found, or one hits
-abbrev pub Expands : (List ℕ → ℕ → Step (List ℕ)) → List ℕ → Found → Option ℕ → Type 0
-Expands step k found None = (choice : ℕ) → Keeps found.states (step k choice)
-Expands step k found (Some choice) = step k choice ≡ hits
+-- the step does not hit, and the state that it goes on to, if any, is one of the known ones or was found
+abbrev pub IsMet : List (List ℕ) → List (List ℕ) → Step (List ℕ) → Type 0
+IsMet known found refuses = Unit {0}
+IsMet known found (goes n) = IsKnown known n ⊎ IsKnown found n
+IsMet known found hits = ⊥
 
--- the state n was found by the choice of its origin in one of the copied states
-pub record IsFrom (step : List ℕ → ℕ → Step (List ℕ)) (copies : Copies) (n : List ℕ)
-    (origin : Origin) : Type 0 where
-  pub at : ℕ
+-- what came of the choices in the state k: all go on to states that are known or found, or one hits
+abbrev pub Expands : (List ℕ → ℕ → Step (List ℕ)) → List (List ℕ) → List ℕ → Found → Option ℕ → Type 0
+Expands step known k found None = (choice : ℕ) → IsMet known found.states (step k choice)
+Expands step known k found (Some choice) = step k choice ≡ hits
+
+-- the state n was found by the choice of its origin in one of the states from `from` on and before `limit`
+pub record IsFrom (step : List ℕ → ℕ → Step (List ℕ)) (states : List (List ℕ)) (from limit : ℕ)
+    (n : List ℕ) (origin : Origin) : Type 0 where
+  pub above : from ≤ origin.parent
+  pub below : origin.parent < limit
   pub k : List ℕ
-  pub place : origin.parent ≡ copies.first + at
-  pub is : slice_get copies.states at ≡ Some k
+  pub is : slice_get states origin.parent ≡ Some k
   pub leads : step k origin.choice ≡ goes n
 
--- the states that were found come from the copied ones, and are all to which choices in the first
--- `done` of these go on
-pub record Finds (step : List ℕ → ℕ → Step (List ℕ)) (copies : Copies) (done : ℕ) (found : Found)
-    : Type 0 where
+-- the states that were found come from those from `from` on and before `limit`, and are all to which
+-- choices in those before `done` go on, but for states that are known
+pub record Finds (step : List ℕ → ℕ → Step (List ℕ)) (states : List (List ℕ)) (from limit done : ℕ)
+    (found : Found) : Type 0 where
   pub from : (at : ℕ) (n : List ℕ) (origin : Origin) → IsFind found at n origin
-      → IsFrom step copies n origin
-  pub whole : (at : ℕ) (k : List ℕ) (choice : ℕ) → at < done → slice_get copies.states at ≡ Some k
-      → Keeps found.states (step k choice)
+      → IsFrom step states from limit n origin
+  pub whole : (place : ℕ) (k : List ℕ) (choice : ℕ) → from ≤ place → place < done
+      → slice_get states place ≡ Some k → IsMet states found.states (step k choice)
 
--- the first `done` states are all, or a choice hits in the one behind them
-abbrev pub Ends : (List ℕ → ℕ → Step (List ℕ)) → List (List ℕ) → ℕ → Option ℕ → Type 0
-Ends step states done None = done ≡ length states
-Ends step states done (Some choice) =
-    (k : List ℕ) × (slice_get states done ≡ Some k) × (step k choice ≡ hits)
+-- the states before `done` are all, or a choice hits in the one there
+abbrev pub Ends : (List ℕ → ℕ → Step (List ℕ)) → List (List ℕ) → ℕ → ℕ → Option ℕ → Type 0
+Ends step states limit done None = done ≡ limit
+Ends step states limit done (Some choice) =
+    (done < limit) × (k : List ℕ) × (slice_get states done ≡ Some k) × (step k choice ≡ hits)
 
--- an expansion of copied states has what choices go on to in the states before its end
-pub record IsExpansion (step : List ℕ → ℕ → Step (List ℕ)) (word_count : ℕ)
-    (is_state : List ℕ → Type 0) (copies : Copies) (expansion : Expansion) : Type 0 where
-  pub done : ℕ
-  pub finds : Finds step copies done expansion.finds
-  pub filling : IsFilling word_count is_state expansion.finds
-  pub end : expansion.end ≡ copies.first + done
-  pub ends : Ends step copies.states done expansion.hit
-
--- the expansion is that of copies of the states from `from` on and before `limit`
-pub record Expanded (step : List ℕ → ℕ → Step (List ℕ)) (is_state : List ℕ → Type 0)
+-- the expansion is that of the states from `from` on and before `limit`
+pub record IsExpansion (step : List ℕ → ℕ → Step (List ℕ)) (is_state : List ℕ → Type 0)
     (reached : Reached) (from limit : ℕ) (expansion : Expansion) : Type 0 where
-  pub copies : Copies
-  pub copied : IsCopied reached from limit copies
-  pub is : IsExpansion step reached.width is_state copies expansion
+  pub first : from ≤ expansion.end
+  pub last : expansion.end ≤ limit
+  pub within : limit ≤ length reached.states
+  pub finds : Finds step reached.states from limit expansion.end expansion.finds
+  pub filling : IsFilling reached.width is_state expansion.finds
+  pub ends : Ends step reached.states limit expansion.end expansion.hit
 
 -- the expansion is that of states from the front on, in its level
 pub record FitsOne (step : List ℕ → ℕ → Step (List ℕ)) (is_state : List ℕ → Type 0)
     (reached : Reached) (front : Front) (expansion : Expansion) : Type 0 where
   pub limit : ℕ
-  pub expanded : Expanded step is_state reached front.at limit expansion
+  pub expanded : IsExpansion step is_state reached front.at limit expansion
   pub level : limit ≤ front.level_end
 
 -- the expansions are those of states from the front on and before `limit`, in its level: each has
@@ -98,7 +98,7 @@ pub record Fit (step : List ℕ → ℕ → Step (List ℕ)) (is_state : List �
   pub within : (place : ℕ) → start place ≤ limit
   pub level : limit ≤ front.level_end
   pub each : (place : ℕ) (expansion : Expansion) → slice_get expansions place ≡ Some expansion
-      → Expanded step is_state reached (start place) (start (place + 1)) expansion
+      → IsExpansion step is_state reached (start place) (start (place + 1)) expansion
 
 -- the search has come as far as the front, with states of a system
 pub record Stands (step : List ℕ → ℕ → Step (List ℕ)) (is_state : List ℕ → Type 0)

@@ -1,5 +1,5 @@
 -- What threads found in a round.
-use Rattle.std.proofs.Common.{◌≡◌, ℕ, zero, suc, ◌+◌, ◌<◌, ◌≤◌, List, [], ◌∷◌, ◌++◌, length, None, Ok, Some, IfOk, Result, refl, sym, ap, ◌∙◌, subst, inl, inr, arith, get_or, length-append}
+use Rattle.std.proofs.Common.{◌≡◌, ℕ, zero, suc, ◌+◌, ◌*◌, ◌<◌, ◌≤◌, List, [], ◌∷◌, ◌++◌, length, None, Ok, Some, IfOk, Result, refl, sym, ap, ◌∙◌, subst, inl, inr, arith, get_or, length-append}
 use Rattle.std.proofs.lemmas.Option.{same_Some, slice_get-get_or, slice_get_within}
 use Rattle.std.specs.List.{slice_get, slice_set}
 use Rattle.std.specs.declared.alloc.AllocError.{AllocError}
@@ -9,22 +9,10 @@ use Rattle.apex_explore.specs.Systems.{Step}
 use Rattle.apex_explore.specs.declared.desks.Desk.{Desk}
 use Rattle.apex_explore.specs.declared.fronts.Front.{Front}
 use Rattle.apex_explore.specs.declared.parts.Expansion.{Expansion}
-use Rattle.apex_explore.proofs.Parting.{Expanded-later}
-use Rattle.apex_jobs.specs.Rounds.{AreExpansions, AreGathered, AreLaidOut}
-use Rattle.apex_states.specs.Batches.{Copies}
-use Rattle.apex_states.specs.Lists.{IsFront}
+use Rattle.apex_jobs.specs.Rounds.{start_at, AreExpansions, AreGathered}
 use Rattle.apex_states.specs.States.{Reached}
 use Rattle.apex_states.proofs.Probing.{last_or_before}
-use Rattle.apex_jobs.proofs.Layouts.{get_set}
-
--- expansions of states that stay there
-pub AreExpansions-later : (step : List ℕ → ℕ → Step (List ℕ)) (is_state : List ℕ → Type 0) (old new : Reached) (from limit : ℕ) (expansions : List Expansion)
-    → IsFront old.states new.states → new.width ≡ old.width → AreExpansions step is_state old from limit expansions → AreExpansions step is_state new from limit expansions
-AreExpansions-later step is_state old new from limit expansions front width are = record {
-  start = are.start;
-  starts = are.starts;
-  each = λ place expansion is. Expanded-later step is_state (are.start place) (are.start (place + 1)) old new expansion front width (are.each place expansion is);
-}
+use Rattle.apex_jobs.proofs.Members.{get_set}
 
 -- expansions of states from the front on fit
 pub AreExpansions-fit : (step : List ℕ → ℕ → Step (List ℕ)) (is_state : List ℕ → Type 0) (reached : Reached) (front : Front) (limit : ℕ) (expansions : List Expansion)
@@ -81,58 +69,29 @@ module _ {W : Type 0} (word_count : ℕ) (is_workspace : W → Type 0) (old : Li
   pub AreGathering-end : (desks : List (Desk W)) (expansions : List Expansion) (place : ℕ) → place ≡ length old → AreGathering desks expansions place → AreGathered old expansions
   AreGathering-end desks expansions place end so_far = record { count = so_far.count ∙ end; each = so_far.each }
 
--- What is gathered from desks whose states were expanded.
-module _ {W : Type 0} (step : List ℕ → ℕ → Step (List ℕ)) (word_count : ℕ) (is_state : List ℕ → Type 0) (is_workspace : W → Type 0) (old new : List (Desk W))
-    (made : (place : ℕ) (desk : Desk W) → slice_get old place ≡ Some desk → (desk' : Desk W) × (slice_get new place ≡ Some desk') × IsMade step word_count is_state is_workspace desk.batch desk')
-    (count : length new ≡ length old) where
-  pub AreExpansions-gathered : (expansions : List Expansion) → AreGathered new expansions
-      → (reached : Reached) (from limit : ℕ) → reached.width ≡ word_count → AreLaidOut is_state reached from limit old → AreExpansions step is_state reached from limit expansions
-  AreExpansions-gathered expansions gathered reached from limit width laid = record {
-    start = laid.start;
-    starts = rw (gathered.count, count) laid.starts;
-    each = λ place expansion is.
-        let (desk', there', made_is) = gathered.each place expansion is in
-        let short : place < length old = omega (arith, slice_get_within expansions place expansion is, gathered.count, count) in
-        let (desk, there) = member old place short in
-        let (other, there'', all) = made place desk there in
-        let same : other ≡ desk' = same_Some other desk' (sym there'' ∙ there') in
-        let result : all.made ≡ Ok expansion = same_Some all.made (Ok expansion) (sym all.is ∙ (ap (λ (d : Desk W). d.made) same ∙ made_is)) in
-        let Is : Result Expansion AllocError → Type 0 = λ r. IfOk r (IsExpansion step word_count is_state desk.batch) in
-        let expands : IsExpansion step word_count is_state desk.batch expansion = subst Is result all.expansion in
-        record {
-          copies = desk.batch;
-          copied = laid.copied place desk there;
-          is = subst (λ n. IsExpansion step n is_state desk.batch expansion) (sym width) expands;
-        };
-  }
-    where
-      member : {X : Type 0} (xs : List X) (place : ℕ) → place < length xs → (x : X) × (slice_get xs place ≡ Some x)
-      member [] place short = absurd (omega arith)
-      member (x ∷ xs) zero short = (x, refl)
-      member (x ∷ xs) (suc place) short = member xs place (omega arith)
+-- What is gathered from desks at which states were expanded.
+module _ {W : Type 0} (step : List ℕ → ℕ → Step (List ℕ)) (word_count : ℕ) (is_state : List ℕ → Type 0) (is_workspace : W → Type 0) (reached : Reached) (from limit size : ℕ) (desks : List (Desk W))
+    (made : (place : ℕ) (desk : Desk W) → slice_get desks place ≡ Some desk
+        → IsMade step word_count is_state is_workspace reached (start_at from limit size place) (start_at from limit size (place + 1)) desk) where
+  pub AreExpansions-gathered : from ≤ limit → limit ≤ from + size * length desks → (expansions : List Expansion) → AreGathered desks expansions → AreExpansions step is_state reached from limit expansions
+  AreExpansions-gathered in_order whole expansions gathered =
+      let whole' : limit ≤ from + size * length expansions = rw gathered.count whole in
+      record {
+        start = start_at from limit size;
+        starts = record { first = omega (arith, in_order); last = omega (arith, whole'); within = λ part. omega arith };
+        each = λ place expansion is.
+            let (desk, there, made_is) = gathered.each place expansion is in
+            let all = made place desk there in
+            let result : all.made ≡ Ok expansion = same_Some all.made (Ok expansion) (sym all.is ∙ made_is) in
+            let Is : Result Expansion AllocError → Type 0 = λ r. IfOk r (IsExpansion step is_state reached (start_at from limit size place) (start_at from limit size (place + 1))) in
+            subst Is result all.expansion;
+      }
 
 -- a desk at which an expansion was made, once that is taken
-pub made_desk : {W : Type 0} (step : List ℕ → ℕ → Step (List ℕ)) (word_count : ℕ) (is_state : List ℕ → Type 0) (is_workspace : W → Type 0) (copies : Copies) (desk : Desk W) (expansion : Expansion)
-    → IsMade step word_count is_state is_workspace copies desk → desk.made ≡ Some (Ok expansion) → IsDesk word_count is_workspace (record desk { made = None })
-made_desk step word_count is_state is_workspace copies desk expansion made is =
+pub made_desk : {W : Type 0} (step : List ℕ → ℕ → Step (List ℕ)) (word_count : ℕ) (is_state : List ℕ → Type 0) (is_workspace : W → Type 0) (reached : Reached) (from limit : ℕ) (desk : Desk W) (expansion : Expansion)
+    → IsMade step word_count is_state is_workspace reached from limit desk → desk.made ≡ Some (Ok expansion) → IsDesk word_count is_workspace (record desk { made = None })
+made_desk step word_count is_state is_workspace reached from limit desk expansion made is =
     let result : made.made ≡ Ok expansion = same_Some made.made (Ok expansion) (sym made.is ∙ is) in
     let Is : Result Expansion AllocError → Type 0 = λ r. IfOk r (λ _. IsDesk word_count is_workspace desk) in
     let same : IsDesk word_count is_workspace desk = subst Is result made.desk_is in
-    record { workspace = same.workspace; next = same.next; width = same.width }
-
--- What a call at each member of a list leaves there.
-module _ {X : Type 0} (R : X → X → Type 0) (old new : List X) (count : length new ≡ length old)
-    (each : (at : ℕ) (d : X) → at < length old → R (get_or old at d) (get_or new at d)) where
-  pub left_of : (place : ℕ) (x : X) → slice_get old place ≡ Some x → (y : X) × (slice_get new place ≡ Some y) × R x y
-  left_of place x is =
-      let short = slice_get_within old place x is in
-      let there = slice_get-get_or new place x (omega (arith, short, count)) in
-      let same : get_or old place x ≡ x = same_Some (get_or old place x) x (sym (slice_get-get_or old place x short) ∙ is) in
-      (get_or new place x, there, subst (λ z. R z (get_or new place x)) same (each place x short))
-
-  pub left_from : (place : ℕ) (y : X) → slice_get new place ≡ Some y → (x : X) × (slice_get old place ≡ Some x) × R x y
-  left_from place y is =
-      let within = slice_get_within new place y is in
-      let short : place < length old = omega (arith, within, count) in
-      let same : get_or new place y ≡ y = same_Some (get_or new place y) y (sym (slice_get-get_or new place y within) ∙ is) in
-      (get_or old place y, slice_get-get_or old place y short, subst (R (get_or old place y)) same (each place y short))
+    record { workspace = same.workspace; lens = same.lens; next = same.next }

@@ -1,17 +1,15 @@
--- Rounds of a level: states that are laid out on desks, and what threads found there.
-use Rattle.std.specs.Prelude.{◌≡◌, ℕ, ◌+◌, ◌≤◌, List, length, IfSome, None, Ok, Option, Some, slice_get}
-use Rattle.apex_explore.specs.Desks.{IsReady}
-use Rattle.apex_explore.specs.Levels.{Stops}
-use Rattle.apex_explore.specs.Parts.{Expanded, IsPast}
-use Rattle.apex_explore.specs.Searches.{IsOver, IsUnderWay, room_of}
+-- Rounds of a level: parts of it, and what threads found there.
+use Rattle.std.specs.Prelude.{◌≡◌, ℕ, ◌+◌, ◌*◌, ◌≤◌, List, length, min, Ok, Some, slice_get}
+use Rattle.apex_explore.specs.Parts.{IsExpansion}
 use Rattle.apex_explore.specs.Systems.{Step}
 use Rattle.apex_explore.specs.declared.desks.Desk.{Desk}
 use Rattle.apex_explore.specs.declared.parts.Expansion.{Expansion}
-use Rattle.apex_explore.specs.declared.search.Stop.{Stop}
-use Rattle.apex_explore.specs.declared.searches.Search.{Search}
-use Rattle.apex_states.specs.Batches.{IsCopied}
-use Rattle.apex_states.specs.Lists.{AllAre, IsFront}
 use Rattle.apex_states.specs.States.{Reached}
+
+-- the place of the first state of a part, if each has this many of the states from `from` on and before
+-- `limit`, as far as they go
+abbrev pub start_at : ℕ → ℕ → ℕ → ℕ → ℕ
+start_at from limit size part = min limit (from + size * part)
 
 -- the starts cut the places from `from` on and before `limit` into this many parts
 pub record AreStarts (from limit count : ℕ) (start : ℕ → ℕ) : Type 0 where
@@ -19,23 +17,13 @@ pub record AreStarts (from limit count : ℕ) (start : ℕ → ℕ) : Type 0 whe
   pub last : start count ≡ limit
   pub within : (part : ℕ) → start part ≤ limit
 
--- copies of the states from `from` on and before `limit` are laid out: each desk has those from its
--- start on and before the start of the next one
-pub record AreLaidOut {W : Type 0} (is_state : List ℕ → Type 0) (reached : Reached) (from limit : ℕ)
-    (desks : List (Desk W)) : Type 0 where
-  pub start : ℕ → ℕ
-  pub starts : AreStarts from limit (length desks) start
-  pub copied : (place : ℕ) (desk : Desk W) → slice_get desks place ≡ Some desk
-      → IsCopied reached (start place) (start (place + 1)) desk.batch
-  pub ready : AllAre (IsReady is_state) desks
-
 -- the expansions are those of the states from `from` on and before `limit`
 pub record AreExpansions (step : List ℕ → ℕ → Step (List ℕ)) (is_state : List ℕ → Type 0)
     (reached : Reached) (from limit : ℕ) (expansions : List Expansion) : Type 0 where
   pub start : ℕ → ℕ
   pub starts : AreStarts from limit (length expansions) start
   pub each : (place : ℕ) (expansion : Expansion) → slice_get expansions place ≡ Some expansion
-      → Expanded step is_state reached (start place) (start (place + 1)) expansion
+      → IsExpansion step is_state reached (start place) (start (place + 1)) expansion
 
 -- the expansions are those that were made at the desks
 pub record AreGathered {W : Type 0} (desks : List (Desk W)) (expansions : List Expansion)
@@ -43,14 +31,3 @@ pub record AreGathered {W : Type 0} (desks : List (Desk W)) (expansions : List E
   pub count : length expansions ≡ length desks
   pub each : (place : ℕ) (expansion : Expansion) → slice_get expansions place ≡ Some expansion
       → (desk : Desk W) × (slice_get desks place ≡ Some desk) × (desk.made ≡ Some (Ok expansion))
-
--- the search went on by expansions that end at `limit`, where it stops for this reason, if any
-pub record IsTaken {W : Type 0} (step : List ℕ → ℕ → Step (List ℕ)) (first : List ℕ)
-    (word_count : ℕ) (is_state : List ℕ → Type 0) (is_workspace : W → Type 0) (limit : ℕ)
-    (old new : Search W) (stop : Option Stop) : Type 0 where
-  pub over : IsOver word_count is_state is_workspace new
-  pub searched : IsUnderWay step first new
-  pub stops : IfSome stop (Stops step new.states new.front)
-  pub past : stop ≡ None → IsPast limit old.front new.front
-  pub states : IsFront old.states.states new.states.states
-  pub room : room_of new ≡ room_of old

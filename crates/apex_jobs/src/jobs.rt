@@ -1,45 +1,23 @@
 //! A search by several threads.
-ghost use Rattle.std.specs.Prelude.{◌≡◌, ◌+◌, ◌<◌, ◌≤◌, length, IfOk, IfSome, None};
+ghost use Rattle.std.specs.Prelude.{◌≡◌, ◌<◌, ◌≤◌, length, IfOk, IfSome, None};
 ghost use Rattle.apex_explore.specs.Answers.{Says};
 ghost use Rattle.apex_explore.specs.Desks.{IsDesk};
 ghost use Rattle.apex_explore.specs.Levels.{Stops};
-ghost use Rattle.apex_explore.specs.Searches.{AreLeft, IsOver, IsSearched, IsSearchedBefore, IsUnderWay, room_of};
+ghost use Rattle.apex_explore.specs.Searches.{IsOver, IsSearched, IsSearchedBefore, IsUnderWay, room_of};
 ghost use Rattle.apex_explore.specs.Systems.{step_within};
 ghost use Rattle.apex_states.specs.Lists.{AllAre};
 
 use crate::expanding::expand_all;
-use crate::laying::lay_out_all;
-use crate::taking::take_and_expand;
 use apex_explore::{Answer, Desk, Places, Search, Stop, System, Watch};
 use std::alloc::{AllocError, Global};
 use std::marker::{Send, Sync};
 use std::thread::Threads;
 
 /// A desk has at most this many states at once.
-const MOST_STATES: usize = 2048;
+const MOST_STATES: usize = 512;
 
 /// To expand fewer states than this takes less time than to begin a thread.
 const LEAST_STATES: usize = 32;
-
-/// A level is cut into this many rounds if that gives each desk neither too many states nor too few.
-const ROUNDS: usize = 1;
-
-/// Of `states` states, the number of those from the place `end` on that can be laid out while those before
-/// are kept. They are those of the level, which ends at `limit`. At its end they are those of the next one
-/// that are there, unless there are too few for this many desks.
-fn states_ahead(states: usize, end: usize, limit: usize, desks: usize) -> usize
-    requires in_order { end ≤ limit }
-    requires within { limit ≤ states }
-    requires some { 0 < desks }
-    ensures within { end + result ≤ states }
-    ensures level { end < limit → end + result ≤ limit }
-{
-    if end < limit {
-        return limit - end;
-    }
-    let left = states - end;
-    if left / LEAST_STATES < desks { 0 } else { left }
-}
 
 /// The threads among which the states of a level are split.
 #[derive(Clone, Copy)]
@@ -49,8 +27,8 @@ pub struct Jobs<'r, R> {
 }
 
 impl<'r, R: Threads + Sync> Jobs<'r, R> {
-    /// `jobs` threads that expand states, beside the caller, which keeps those that they find. The caller
-    /// does both if `jobs` is 0 or 1.
+    /// `jobs` threads that expand states, of which the caller is one: it keeps what they find. The caller
+    /// works alone if `jobs` is 0 or 1.
     pub fn new(rt: &'r R, jobs: u32) -> Jobs<'r, R> {
         Jobs { rt, jobs }
     }
@@ -100,7 +78,7 @@ impl<'r, R: Threads + Sync> Jobs<'r, R> {
         let desks = desks.as_mut_slice();
         loop {
             search.show(watch);
-            let stopped = self.go_on_level(alloc, search, system, desks, watch)?;
+            let stopped = self.go_on_level(alloc, search, system, desks)?;
             match stopped {
                 Some(stop) => return search.answer(alloc, system, stop),
                 None => {}
@@ -125,27 +103,24 @@ impl<'r, R: Threads + Sync> Jobs<'r, R> {
         Ok(desks)
     }
 
-    /// Of the states of a level that are left, the number that are laid out on the desks at once.
+    /// Of the states of a level that are left, the number that are expanded at once.
     fn states_at_once(&self, left: usize) -> usize
         requires { 0 < left }
         ensures some { 0 < result }
         ensures within { result ≤ left }
     {
         let desks = self.jobs.max(1) as usize;
-        let least = LEAST_STATES.saturating_mul(desks);
-        let most = MOST_STATES.saturating_mul(desks);
-        (left / ROUNDS).max(least).min(most).min(left)
+        MOST_STATES.saturating_mul(desks).min(left)
     }
 
-    /// Goes on for the states of a level that are left, or until there is an answer: why it stops then.
-    /// Fails only for want of memory.
-    fn go_on_level<W: Drop + Send, S: System<Workspace = W> + Sync, V: Watch>(
+    /// Goes on for some states of the level, or until there is an answer: why it stops then. Fails only for
+    /// want of memory.
+    fn go_on_level<W: Drop + Send, S: System<Workspace = W> + Sync>(
         &self,
         alloc: Global,
         search: &mut Search<W>,
         system: &S,
         desks: &mut [Desk<W>],
-        watch: &mut V,
     ) -> Result<Option<Stop>, AllocError>
         requires some { 0 < length desks.old }
         requires desks { AllAre (IsDesk (S.word_count system.now) (S.is_workspace system.now))
@@ -173,66 +148,8 @@ impl<'r, R: Threads + Sync> Jobs<'r, R> {
         if (limit - from) / LEAST_STATES < desks.len() {
             return search.go_on_for(alloc, system, limit - from);
         }
-        self.go_on_at_once(alloc, search, system, desks, places, watch)
-    }
-
-    /// Goes on for these states of a level, some at a time: while threads expand some, the caller keeps what
-    /// was found before. At the end of the level it goes on with the next one, as long as there are enough
-    /// states for the desks. It stops before that if there is an answer: why it stops then. Fails only for
-    /// want of memory.
-    fn go_on_at_once<W: Drop + Send, S: System<Workspace = W> + Sync, V: Watch>(
-        &self,
-        alloc: Global,
-        search: &mut Search<W>,
-        system: &S,
-        desks: &mut [Desk<W>],
-        places: Places,
-        watch: &mut V,
-    ) -> Result<Option<Stop>, AllocError>
-        requires some { 0 < length desks.old }
-        requires desks { AllAre (IsDesk (S.word_count system.now) (S.is_workspace system.now))
-            desks.old }
-        requires over { IsOver (S.word_count system.now) (S.is_state system.now)
-            (S.is_workspace system.now) search.old }
-        requires searched { let step = step_within (S.choice_count system.now) (S.step system.now) in
-            IsUnderWay step (S.start system.now) search.old }
-        requires left { AreLeft search.old.front places }
-        ensures over { IfOk result (λ _. IsOver (S.word_count system.now) (S.is_state system.now)
-            (S.is_workspace system.now) search.new) }
-        ensures searched { let step = step_within (S.choice_count system.now) (S.step system.now) in
-            IfOk result (λ _. IsUnderWay step (S.start system.now) search.new) }
-        ensures stop { let step = step_within (S.choice_count system.now) (S.step system.now) in
-            IfOk result (λ stop. IfSome stop (Stops step search.new.states search.new.front)) }
-        ensures further { IfOk result (λ stop. stop ≡ None
-            → search.old.front.at < search.new.front.at) }
-        ensures room { IfOk result (λ _. room_of search.new ≡ room_of search.old) }
-        ensures desks { IfOk result (λ stop. stop ≡ None
-            → AllAre (IsDesk (S.word_count system.now) (S.is_workspace system.now)) desks.new) }
-    {
-        let Places { from, mut limit } = places;
-        let mut end = from + self.states_at_once(limit - from);
-        lay_out_all(system, search, desks, from, end)?;
-        let mut expansions = expand_all(self.rt, alloc, system, desks)?;
-        loop {
-            search.show(watch);
-            let left = states_ahead(search.len(), end, limit, desks.len());
-            if left == 0 {
-                return search.take(alloc, system, end, expansions.as_slice());
-            }
-            let next = end + self.states_at_once(left);
-            lay_out_all(system, search, desks, end, next)?;
-            let found = expansions.as_slice();
-            let (stop, more) = take_and_expand(self.rt, alloc, system, search, end, found, desks)?;
-            match stop {
-                Some(stop) => return Ok(Some(stop)),
-                None => {}
-            }
-            let Some(places) = search.turn(system) else {
-                return Ok(Some(Stop::Done));
-            };
-            limit = places.limit;
-            expansions = more;
-            end = next;
-        }
+        let end = from + self.states_at_once(limit - from);
+        let expansions = expand_all(self.rt, alloc, system, search.states(), desks, from, end)?;
+        search.take(alloc, system, end, expansions.as_slice())
     }
 }

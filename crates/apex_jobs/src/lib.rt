@@ -2,9 +2,8 @@
 //! in which it keeps the states.
 #![tactic(auto)]
 
+mod cutting;
 mod expanding;
 mod jobs;
-mod laying;
-mod taking;
 
 pub use jobs::Jobs;

@@ -1,6 +1,6 @@
 -- The states that are stored.
-use Rattle.std.proofs.Common.{◌≡◌, ℕ, zero, suc, ◌*◌, ◌≤◌, true, false, List, [], ◌∷◌, ◌++◌, length, length-append, map, take, drop, Some, refl, sym, ap, ◌∙◌, subst, arith, inl, inr}
-use Rattle.std.proofs.lemmas.List.{length-drop, length-map, map-append}
+use Rattle.std.proofs.Common.{◌≡◌, ℕ, zero, suc, ◌+◌, ◌*◌, ◌/◌, ◌≤◌, true, false, List, [], ◌∷◌, ◌++◌, length, length-append, map, replicate, take, drop, Some, refl, sym, ap, ◌∙◌, subst, arith, inl, inr}
+use Rattle.std.proofs.lemmas.List.{drop-replicate, length-drop, length-map, length-replicate, map-append, take-append-drop}
 use Rattle.std.proofs.lemmas.Option.{same_Some, slice_get-map}
 use Rattle.std.specs.List.{slice_get}
 use Rattle.std.specs.Prelude.{slice_index_or}
@@ -10,6 +10,7 @@ use Rattle.apex_states.specs.declared.registers.Entered.TheVariants.{Known, New,
 use Rattle.apex_states.specs.declared.states.Origin.{Origin}
 use Rattle.apex_states.specs.declared.states.TheConstants.{DEPTH}
 use Rattle.apex_states.specs.Index.{IsKnown}
+use Rattle.apex_states.specs.Lenses.{all_words, filling, IsFilled}
 use Rattle.apex_states.specs.Lists.{AllAre}
 use Rattle.apex_states.specs.Nodes.{IsExact, IsHeld, IsTree, Joins, no_nodes}
 use Rattle.apex_states.specs.Registers.{AreApart, IsEntered}
@@ -86,15 +87,20 @@ pub IsStored-start : (width part room size : ℕ) (roots : Packed) (nodes : Node
     → nodes ≡ no_nodes part 64
     → origins ≡ []
     → room ≤ capacity
-    → length words ≡ 8 * part
-    → width ≤ 8 * part
+    → part ≡ width / 8 + 1
+    → words ≡ replicate (8 * part) 0
     → IsStored width roots nodes origins capacity words
-IsStored-start width part room size roots nodes origins capacity words roots_is nodes_is origins_is reserved long wide = rw (roots_is, nodes_is, origins_is) (record {
+IsStored-start width part room size roots nodes origins capacity words roots_is nodes_is origins_is reserved part_is words_are =
+    let long : length words ≡ 8 * part = ap length words_are ∙ length-replicate (8 * part) 0 in
+    let wide : width ≤ 8 * part = omega (arith, part_is) in
+    rw (roots_is, nodes_is, origins_is) (record {
   one = refl;
   apart = λ i j k one other. cc;
   exact = record { parts = λ i j k one other. cc; pairs = λ i j k one other. cc; one = refl };
   long = omega (arith, long);
-  wide = omega (arith, long);
+  wide = omega (arith, long, wide);
+  part = part_is;
+  rest = ap (drop width) (words_are ∙ ap (λ n. replicate (8 * n) 0) part_is) ∙ drop-replicate width (all_words width) 0;
   valid = λ place row is. cc;
   paired = refl;
   reserved = reserved;
@@ -118,6 +124,8 @@ IsStored-held width roots nodes nodes' origins capacity words words' old held ex
       exact = exact;
       long = rw held.width (long ∙ old.long);
       wide = omega (arith, long, old.wide);
+      part = held.width ∙ old.part;
+      rest = rest ∙ old.rest;
       valid = subst Valid (sym rest) (AllAre-held nodes nodes' width (drop width words) roots.rows held old.valid);
       paired = old.paired;
       reserved = old.reserved;
@@ -151,6 +159,8 @@ IsStored-enter width roots roots' nodes origins origins' origin capacity capacit
   exact = old.exact;
   long = old.long;
   wide = old.wide;
+  part = old.part;
+  rest = old.rest;
   valid = λ place other there. elim (last_or_before roots.rows row place other there) [
     | inl before ↦ old.valid place other before
     | inr last ↦ subst (IsRoot nodes width (drop width words)) last.1 (record { state = k; long = long; joins = joins })
@@ -260,3 +270,62 @@ module _ (width : ℕ) (roots : Packed) (nodes nodes' : Nodes) (origins : List O
   keep_full roots' origin entered =
       let Seen : Packed → Type 0 = λ rs. seen nodes' rs origins ≡ seen nodes roots origins in
       (unknown entered.0, length-map roots.rows (state_of nodes width) ∙ entered.1, subst Seen (sym entered.2) (ap (λ ks. record { width = width; room = roots.room; states = ks; origins = origins }) same))
+
+-- What is put into a lens.
+
+filled_long : (width : ℕ) (k : List ℕ) → length k ≡ width → length (k ++ filling width) ≡ all_words width
+filled_long width k long = omega (arith, long, length-append k (filling width), length-replicate (all_words width - width) 0)
+
+-- the words that are asked for if a state is put into a lens
+pub to_show : (nodes : Nodes) (width pair : ℕ) (here lent k : List ℕ) → IsFilled width here → lent ≡ here → length k ≡ width → Joins (IsTree nodes DEPTH) (pair ∷ []) (k ++ filling width)
+    → (words : List ℕ) × (length words ≡ length lent) × Joins (IsTree nodes DEPTH) (pair ∷ []) words
+to_show nodes width pair here lent k filled lent_is long joins =
+    (k ++ filling width, filled_long width k long ∙ (sym filled.long ∙ ap length (sym lent_is)), joins)
+
+-- the words of a state that were put into a lens
+pub shown : (nodes : Nodes) (width pair len : ℕ) (here lent k put : List ℕ) → IsFilled width here → length lent ≡ len → lent ≡ here → length k ≡ width
+    → Joins (IsTree nodes DEPTH) (pair ∷ []) (k ++ filling width) → Joins (IsTree nodes DEPTH) (pair ∷ []) put
+    → take len (put ++ drop (length put) here) ≡ k ++ filling width
+shown nodes width pair len here lent k put filled len_is lent_is long joins joins' =
+    let all : put ≡ k ++ filling width = sym (joined-root nodes DEPTH (pair ∷ []) put joins') ∙ joined-root nodes DEPTH (pair ∷ []) (k ++ filling width) joins in
+    let as_long : length put ≡ length here = ap length all ∙ (filled_long width k long ∙ sym filled.long) in
+    given_back len put here (sym len_is ∙ ap length lent_is) as_long ∙ all
+
+pub IsFilled-filled : (width : ℕ) (k words : List ℕ) → length k ≡ width → words ≡ k ++ filling width → IsFilled width words
+IsFilled-filled width k words long is =
+    let Rest : ℕ → Type 0 = λ n. drop n (k ++ filling width) ≡ filling width in
+    record { long = ap length is ∙ filled_long width k long; rest = ap (drop width) is ∙ subst Rest long (drop_front k (filling width)) }
+
+pub state_in : (width : ℕ) (k words : List ℕ) → length k ≡ width → words ≡ k ++ filling width → take width words ≡ k
+state_in width k words long is =
+    let Taken : ℕ → Type 0 = λ n. take n (k ++ filling width) ≡ k in
+    ap (take width) is ∙ subst Taken long (take_front k (filling width))
+
+-- the words of a lens are those of its state, filled up
+pub filled_words : (width : ℕ) (words : List ℕ) → IsFilled width words → take width words ++ filling width ≡ words
+filled_words width words filled = ap (λ ws. take width words ++ ws) (sym filled.rest) ∙ take-append-drop width words
+
+module _ (width : ℕ) (roots : Packed) (nodes : Nodes) (origins : List Origin) (capacity : ℕ) (words : List ℕ) (stored : IsStored width roots nodes origins capacity words) (place : ℕ) (row : List ℕ)
+    (there : slice_get roots.rows place ≡ Some row) (one : length row ≡ 1) where
+  -- the state of a row, with its number
+  pub root_of : (k : List ℕ) × (length k ≡ width) × Joins (IsTree nodes DEPTH) (slice_index_or row 0 0 ∷ []) (k ++ filling width)
+  root_of =
+      let root = stored.valid place row there in
+      let Is : List ℕ → Type 0 = λ r. Joins (IsTree nodes DEPTH) (slice_index_or row 0 0 ∷ []) (root.state ++ r) in
+      (root.state, root.long, subst Is stored.rest (Joins-single (IsTree nodes DEPTH) row (root.state ++ drop width words) one root.joins))
+
+  -- the number of the state at a place
+  pub root_at_place : (k : List ℕ) → slice_get (states_in nodes width roots.rows) place ≡ Some k → Joins (IsTree nodes DEPTH) (slice_index_or row 0 0 ∷ []) (k ++ filling width)
+  root_at_place k is =
+      let (row', there', long, joins) = root_at nodes width (drop width words) roots.rows place k stored.valid is in
+      let same : row' ≡ row = same_Some row' row (sym there' ∙ there) in
+      let Row : List ℕ → Type 0 = λ r. Joins (IsTree nodes DEPTH) r (k ++ drop width words) in
+      let Is : List ℕ → Type 0 = λ r. Joins (IsTree nodes DEPTH) (slice_index_or row 0 0 ∷ []) (k ++ r) in
+      subst Is stored.rest (Joins-single (IsTree nodes DEPTH) row (k ++ drop width words) one (subst Row same joins))
+
+-- the state with a number that is there
+pub state_at_number : (nodes : Nodes) (width : ℕ) (rows : List (List ℕ)) (place : ℕ) (row k : List ℕ) → slice_get rows place ≡ Some row → length row ≡ 1 → length k ≡ width
+    → Joins (IsTree nodes DEPTH) (slice_index_or row 0 0 ∷ []) (k ++ filling width) → slice_get (states_in nodes width rows) place ≡ Some k
+state_at_number nodes width rows place row k there one long joins =
+    let Row : List ℕ → Type 0 = λ r. Joins (IsTree nodes DEPTH) r (k ++ filling width) in
+    state_at nodes width (filling width) rows place row k there long (subst Row (sym (single row one)) joins)

@@ -1,6 +1,6 @@
-pub mod Batches
 pub mod Finds
 pub mod Index
+pub mod Lenses
 pub mod Lists
 pub mod Nodes
 pub mod Registers

@@ -1,9 +1,10 @@
 -- The states that a search has reached, as contracts see them, and what is kept of them in memory.
-use Rattle.std.specs.Prelude.{◌≡◌, ℕ, ◌+◌, ◌≤◌, ◌⊎◌, Bool, true, false, List, [], ◌∷◌, ◌++◌, length, map, take, drop}
+use Rattle.std.specs.Prelude.{◌≡◌, ℕ, ◌+◌, ◌/◌, ◌≤◌, ◌⊎◌, Bool, true, false, List, [], ◌∷◌, ◌++◌, length, map, take, drop}
 use Rattle.apex_states.specs.declared.nodes.Nodes.{Nodes}
 use Rattle.apex_states.specs.declared.states.Origin.{Origin}
 use Rattle.apex_states.specs.declared.states.TheConstants.{DEPTH}
 use Rattle.apex_states.specs.Index.{IsKnown}
+use Rattle.apex_states.specs.Lenses.{filling}
 use Rattle.apex_states.specs.Nodes.{IsExact, IsTree, Joins, joined, spread, words_of}
 use Rattle.apex_states.specs.Lists.{AllAre}
 use Rattle.apex_states.specs.Registers.{AreApart}
@@ -42,6 +43,8 @@ pub record IsStored (width : ℕ) (roots : Packed) (nodes : Nodes) (origins : Li
   pub exact : IsExact nodes
   pub long : length words ≡ spread nodes.parts.width DEPTH + spread nodes.parts.width DEPTH
   pub wide : width ≤ length words
+  pub part : nodes.parts.width ≡ width / 8 + 1
+  pub rest : drop width words ≡ filling width
   pub valid : AllAre (IsRoot nodes width (drop width words)) roots.rows
   pub paired : length origins ≡ length roots.rows
   pub reserved : roots.room ≤ capacity

@@ -5,12 +5,12 @@ ghost use Rattle.apex_states.specs.Index.{IsKnown};
 
 use crate::index::home;
 use crate::rows::Rows;
-use crate::states::Origin;
+use crate::states::{Guess, NO_GUESS, Origin};
 use std::alloc::{AllocError, Global};
 use std::marker::Model;
 
 /// The number of slots for states that were found a short time before.
-const SLOTS: usize = 16384;
+const SLOTS: usize = 4096;
 
 /// States in the order in which they were found, and the origin of each. One can be there more than
 /// once, but seldom is if it was found a short time before.
@@ -18,6 +18,8 @@ const SLOTS: usize = 16384;
 pub struct Finds {
     states: Rows,
     origins: Vec<Origin>,
+    /// A guess at the numbers of each.
+    guesses: Vec<Guess>,
     /// The place of the last state for which there was this slot, by a hash of its words.
     recent: Vec<usize>,
 }
@@ -45,6 +47,7 @@ impl Finds {
         Ok(Finds {
             states: Rows::empty(alloc, width),
             origins: Vec::new(alloc),
+            guesses: Vec::new(alloc),
             recent: vec![in alloc; 0; SLOTS]?,
         })
     }
@@ -74,6 +77,14 @@ impl Finds {
         self.origins[place]
     }
 
+    /// A guess at the numbers of the state at the place.
+    pub(crate) fn guess(&self, place: usize) -> Guess {
+        match self.guesses.get(place) {
+            Some(guess) => *guess,
+            None => NO_GUESS,
+        }
+    }
+
     /// The state is the last one for which there was this slot.
     fn is_recent(&self, slot: usize, state: &[u64]) -> bool
         ensures { result ≡ true → IsKnown self.now.states state.now }
@@ -86,16 +97,22 @@ impl Finds {
 
     /// Puts the state behind the others, unless it is there and was found a short time before. Fails only
     /// for want of memory.
-    pub fn put(&mut self, state: &[u64], origin: Origin) -> Result<(), AllocError>
+    pub fn put(
+        &mut self,
+        state: &[u64],
+        origin: Origin,
+        guess: Guess,
+    ) -> Result<(), AllocError>
         requires { length state.now ≡ self.old.width }
         ensures { IfOk result (λ _. IsPut self.old state.now origin self.new) }
     {
-        let slot = home(state, SLOTS);
+        let slot = home(&[guess.pair], SLOTS);
         if self.is_recent(slot, state) {
             return Ok(());
         }
         let place = self.origins.len();
         self.origins.reserve(1)?;
+        self.guesses.push(guess)?;
         self.states.push_more(state)?;
         self.origins.push_reserved(origin);
         if slot < self.recent.len() {

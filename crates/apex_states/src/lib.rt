@@ -2,17 +2,17 @@
 //! have in common is kept once.
 #![tactic(auto)]
 
-mod batches;
 mod finds;
 mod index;
 mod keeping;
+mod lenses;
 mod nodes;
 mod registers;
 mod rows;
 mod states;
 mod words;
 
-pub use batches::Batch;
 pub use finds::Finds;
 pub use keeping::keep_all;
-pub use states::{Origin, States};
+pub use lenses::Lens;
+pub use states::{Guess, Origin, States};

@@ -1,7 +1,7 @@
 //! Words as trees. A row of words is cut in halves, each half again, and so on down to parts of a
 //! few words. Each part and each pair of halves is kept once, so rows that share halves share their
 //! memory.
-ghost use Rattle.std.specs.Prelude.{◌≡◌, ℕ, ◌+◌, ◌^◌, ◌/◌, ◌%◌, List, [], ◌∷◌, length, IfOk};
+ghost use Rattle.std.specs.Prelude.{◌≡◌, ℕ, ◌+◌, ◌^◌, ◌/◌, ◌%◌, List, [], ◌∷◌, length, slice_get, true, IfOk, IfSome, Some};
 ghost use Rattle.apex_states.specs.Nodes.{IsExact, IsHeld, IsTree, Joins, no_nodes, spread};
 
 use crate::registers::Register;
@@ -97,40 +97,100 @@ impl Nodes {
         Ok(Pair { left, right }.word())
     }
 
-    /// The number of the tree of these words, which are nearly these known ones: what they have in
-    /// common is not looked up. Fails only for want of memory.
-    #[cycle(likes)]
-    fn number_like(
-        &mut self,
-        alloc: Global,
+    /// The number of the tree of these words, if it is there. They are nearly these known ones: what
+    /// they have in common is not looked up.
+    #[cycle(finds)]
+    fn find_like(&self, depth: u32, words: &[u64], known: &[u64], number: u32) -> Option<u32>
+        requires exact { IsExact self.now }
+        requires words { length words.now ≡ spread self.now.parts.width depth }
+        requires long { length known.now ≡ length words.now }
+        requires known { IsTree self.now depth number known.now }
+        ensures { IfSome result (λ number. IsTree self.now depth number words.now) }
+    {
+        if are_same(words, known) {
+            return Some(number);
+        }
+        if depth == 0 {
+            return self.parts.find(words);
+        }
+        let pair = self.pairs.row(number as usize)[0];
+        let word = self.find_halves_like(depth - 1, words, known, pair)?;
+        self.pairs.find(&[word])
+    }
+
+    /// The numbers of the trees of both halves of these words, in one word, if they are there. The words
+    /// are nearly these known ones, whose numbers are in `pair`; `depth` is that of a half.
+    #[cycle(finds)]
+    pub(crate) fn find_halves_like(
+        &self,
         depth: u32,
         words: &[u64],
         known: &[u64],
-        number: u32,
-    ) -> Result<u32, AllocError>
-        requires exact { IsExact self.old }
-        requires words { length words.now ≡ spread self.old.parts.width depth }
+        pair: u64,
+    ) -> Option<u64>
+        requires exact { IsExact self.now }
+        requires words { length words.now
+            ≡ spread self.now.parts.width depth + spread self.now.parts.width depth }
         requires long { length known.now ≡ length words.now }
-        requires known { IsTree self.old depth number known.now }
-        ensures number { IfOk result (λ number. IsTree self.new depth number words.now) }
-        ensures held { IsHeld self.old self.new }
-        ensures exact { IsExact self.new }
+        requires known { Joins (IsTree self.now depth) (pair ∷ []) known.now }
+        ensures { IfSome result (λ word. Joins (IsTree self.now depth) (word ∷ []) words.now) }
     {
-        if are_same(words, known) {
-            return Ok(number);
+        let pair = Pair::of(pair);
+        let (front, back) = words.split_at(words.len() / 2);
+        let (known_front, known_back) = known.split_at(known.len() / 2);
+        let left = self.find_like(depth, front, known_front, pair.left)?;
+        let right = self.find_like(depth, back, known_back, pair.right)?;
+        Some(Pair { left, right }.word())
+    }
+
+    /// Whether the part at the place has these words. It can be any place.
+    fn is_part(&self, place: usize, words: &[u64]) -> bool
+        requires { length words.now ≡ self.now.parts.width }
+        ensures { result ≡ true → slice_get self.now.parts.rows place ≡ Some words.now }
+    {
+        if place >= self.parts.len() {
+            return false;
         }
+        are_same(words, self.parts.row(place))
+    }
+
+    /// Whether the number is that of the tree of these words. It can be any number.
+    #[cycle(tells)]
+    fn is_tree(&self, depth: u32, number: u32, words: &[u64]) -> bool
+        requires exact { IsExact self.now }
+        requires words { length words.now ≡ spread self.now.parts.width depth }
+        ensures { result ≡ true → IsTree self.now depth number words.now }
+    {
+        let place = number as usize;
         if depth == 0 {
-            return self.parts.number(alloc, words);
+            return self.is_part(place, words);
         }
-        let pair = self.pairs.row(number as usize)[0];
-        let word = self.number_halves_like(alloc, depth - 1, words, known, pair)?;
-        self.pairs.number(alloc, &[word])
+        if place >= self.pairs.len() {
+            return false;
+        }
+        self.are_halves(depth - 1, self.pairs.row(place)[0], words)
+    }
+
+    /// Whether the numbers in this word are those of the trees of both halves of these words; `depth` is
+    /// that of a half. They can be any numbers.
+    #[cycle(tells)]
+    pub(crate) fn are_halves(&self, depth: u32, word: u64, words: &[u64]) -> bool
+        requires exact { IsExact self.now }
+        requires words { length words.now
+            ≡ spread self.now.parts.width depth + spread self.now.parts.width depth }
+        ensures { result ≡ true → Joins (IsTree self.now depth) (word ∷ []) words.now }
+    {
+        let pair = Pair::of(word);
+        let (front, back) = words.split_at(words.len() / 2);
+        if !self.is_tree(depth, pair.left, front) {
+            return false;
+        }
+        self.is_tree(depth, pair.right, back)
     }
 
     /// The numbers of the trees of both halves of these words, in one word. They are nearly these
-    /// known ones, whose numbers are in `pair`; `depth` is that of a half. Fails only for want of
-    /// memory.
-    #[cycle(likes)]
+    /// known ones, whose numbers are in `pair`: what they have in common is not looked up. `depth` is that
+    /// of a half. Fails only for want of memory.
     pub(crate) fn number_halves_like(
         &mut self,
         alloc: Global,
@@ -149,12 +209,33 @@ impl Nodes {
         ensures held { IsHeld self.old self.new }
         ensures exact { IsExact self.new }
     {
-        let pair = Pair::of(pair);
-        let (front, back) = words.split_at(words.len() / 2);
-        let (known_front, known_back) = known.split_at(known.len() / 2);
-        let left = self.number_like(alloc, depth, front, known_front, pair.left)?;
-        let right = self.number_like(alloc, depth, back, known_back, pair.right)?;
-        Ok(Pair { left, right }.word())
+        match self.find_halves_like(depth, words, known, pair) {
+            Some(word) => Ok(word),
+            None => self.number_halves(alloc, depth, words),
+        }
+    }
+
+    /// The numbers of the trees of both halves of these words, in one word. `guess` is this word, or any
+    /// other one; `depth` is that of a half. Fails only for want of memory.
+    pub(crate) fn number_halves_guessed(
+        &mut self,
+        alloc: Global,
+        depth: u32,
+        words: &[u64],
+        guess: u64,
+    ) -> Result<u64, AllocError>
+        requires exact { IsExact self.old }
+        requires words { length words.now
+            ≡ spread self.old.parts.width depth + spread self.old.parts.width depth }
+        ensures halves { IfOk result (λ word.
+            Joins (IsTree self.new depth) (word ∷ []) words.now) }
+        ensures held { IsHeld self.old self.new }
+        ensures exact { IsExact self.new }
+    {
+        if self.are_halves(depth, guess, words) {
+            return Ok(guess);
+        }
+        self.number_halves(alloc, depth, words)
     }
 
     /// Puts the words of the tree with this number into these.

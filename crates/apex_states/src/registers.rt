@@ -74,6 +74,16 @@ impl Register {
         self.rows.row(number)
     }
 
+    /// The number of the row, if it is there.
+    pub(crate) fn find(&self, row: &[u64]) -> Option<u32>
+        ensures { IfSome result (λ number. slice_get self.now.rows number ≡ Some row.now) }
+    {
+        match self.index.find(&self.rows, row) {
+            Found::At(place) => Some(place as u32),
+            Found::Nowhere(_) => None,
+        }
+    }
+
     /// Enters the row as the last one if it is not there yet.
     pub(crate) fn enter(&mut self, row: &[u64]) -> Entered
         requires { length row.now ≡ self.old.width }

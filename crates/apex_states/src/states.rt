@@ -1,27 +1,21 @@
 //! The states that a search has reached, and where each of them comes from.
-ghost use Rattle.std.specs.Prelude.{◌≡◌, ◌^◌, ◌<◌, ◌≤◌, ◌++◌, true, drop, length, slice_get, Some, IfOk};
+ghost use Rattle.std.specs.Prelude.{◌≡◌, ◌^◌, ◌<◌, ◌≤◌, ◌++◌, true, length, slice_get, None, Some, IfOk};
 ghost use Rattle.apex_states.specs.Registers.{AreApart};
 ghost use Rattle.apex_states.specs.Index.{IsKnown};
 ghost use Rattle.apex_states.specs.States.{no_states, IsKept};
 
+use crate::lenses::Lens;
 use crate::nodes::Nodes;
 use crate::registers::{Entered, Register};
+use crate::words::put_front;
 use std::alloc::{AllocError, Global};
 use std::marker::Model;
 
 /// How many pairs lie above a part in each half of a state.
-const DEPTH: u32 = 2;
+pub(crate) const DEPTH: u32 = 2;
 
 /// The parts of a state: 2 ^ `DEPTH` in each half.
-const PARTS: usize = 8;
-
-/// Puts these words in place of the first ones.
-fn put_front(words: &mut [u64], front: &[u64])
-    requires { length front.now ≤ length words.old }
-    ensures { words.new ≡ front.now ++ drop (length front.now) words.old }
-{
-    words[..front.len()].copy_from_slice(front);
-}
+pub(crate) const PARTS: usize = 8;
 
 /// The choice by which a state was found, and the place of the state that it was made in.
 #[derive(Clone, Copy)]
@@ -29,6 +23,17 @@ pub struct Origin {
     pub parent: u32,
     pub choice: u32,
 }
+
+/// A guess at the numbers of the halves of a state. It need not be right.
+#[derive(Clone, Copy)]
+pub struct Guess {
+    pub(crate) pair: u64,
+}
+
+/// The guess if nothing is known.
+pub(crate) const NO_GUESS: Guess = Guess {
+    pair: 0xffff_ffff_ffff_ffff,
+};
 
 /// States in the order in which they were found, each once, and the origin of each.
 ///
@@ -135,6 +140,62 @@ impl States {
         let word = self
             .nodes
             .number_halves_like(alloc, DEPTH, words, here, self.pair)?;
+        match self.roots.enter(&[word]) {
+            Entered::Known(_) => Ok(true),
+            Entered::New(_) => {
+                self.origins.push_reserved(origin);
+                Ok(true)
+            }
+            Entered::Full => Ok(false),
+        }
+    }
+
+    /// Shows the state at the place in the lens.
+    pub fn show(&self, place: usize, lens: &mut Lens)
+        requires place { place < length self.now.states }
+        requires width { lens.old.width ≡ self.now.width }
+        ensures state { slice_get self.now.states place ≡ Some lens.new.state }
+        ensures width { lens.new.width ≡ lens.old.width }
+    {
+        lens.show(&self.nodes, self.roots.row(place)[0]);
+    }
+
+    /// Looks for a state, which is nearly the one in the lens, that is the one at the place. If it is not
+    /// there: a guess at its numbers.
+    pub fn look(&self, place: usize, lens: &mut Lens, state: &[u64]) -> Option<Guess>
+        requires place { place < length self.now.states }
+        requires shown { slice_get self.now.states place ≡ Some lens.old.state }
+        requires lens { lens.old.width ≡ self.now.width }
+        requires width { length state.now ≡ self.now.width }
+        ensures known { result ≡ None → IsKnown self.now.states state.now }
+        ensures same { lens.new ≡ lens.old }
+    {
+        let pair = self.roots.row(place)[0];
+        let Some(pair) = lens.find(&self.nodes, pair, state) else {
+            return Some(NO_GUESS);
+        };
+        match self.roots.find(&[pair]) {
+            Some(_) => None,
+            None => Some(Guess { pair }),
+        }
+    }
+
+    /// Keeps the state as `keep` does. It takes less time if the guess at its numbers is right.
+    pub fn keep_guessed(
+        &mut self,
+        alloc: Global,
+        state: &[u64],
+        origin: Origin,
+        guess: Guess,
+    ) -> Result<bool, AllocError>
+        requires { length state.now ≡ self.old.width }
+        ensures { IfOk result (λ kept. IsKept self.old state.now origin kept self.new) }
+    {
+        put_front(self.words.as_mut_slice(), state);
+        let words = self.words.as_slice();
+        let word = self
+            .nodes
+            .number_halves_guessed(alloc, DEPTH, words, guess.pair)?;
         match self.roots.enter(&[word]) {
             Entered::Known(_) => Ok(true),
             Entered::New(_) => {

@@ -18,10 +18,10 @@ loop-place-preserved g c =
     let short : place < length c.loop-place.desks = omega arith in
     let here : slice_get c.loop-place.desks place ≡ Some was = slice_get-get_or c.loop-place.desks place was short ∙ ap Some (sym c.index-desks-place.is) in
     let before = c.loop-place.invariant.rest place was (omega arith) here in
-    let (copies, made) = c.requires place was before in
+    let (reached, from, limit, made) = c.requires place was before in
     let taken : was.made ≡ c.take.result = rw c.index-desks-place.is (sym c.take.ensures.made) in
     let is : was.made ≡ Some (Ok expansion) = taken ∙ (c.in-Some.is ∙ ap Some c.in_ok-made.was) in
-    let desk : IsDesk word_count is_workspace c.take.new.self = rw (c.take.ensures.same, ← c.index-desks-place.is) (made_desk step word_count (g.S.System.is_state c.args.system.now) is_workspace copies was expansion made is) in
+    let desk : IsDesk word_count is_workspace c.take.new.self = rw (c.take.ensures.same, ← c.index-desks-place.is) (made_desk step word_count (g.S.System.is_state c.args.system.now) is_workspace reached from limit was expansion made is) in
     rw c.in_ok-push.ensures.items (AreGathering-next word_count is_workspace c.args.desks.now c.loop-place.desks c.loop-place.expansions.items place was c.take.new.self expansion here is desk c.loop-place.invariant)
 
 pub returns-clause-desks : goal.returns-clause-desks

@@ -1,7 +1,7 @@
 -- One desk more.
 use Rattle.std.proofs.Common.{[], ◌∷◌, length-append, arith}
 use Rattle.apex_explore.specs.Desks.{IsDesk}
-use Rattle.apex_jobs.proofs.Layouts.{all_push}
+use Rattle.apex_jobs.proofs.Members.{all_push}
 use Rattle.apex_jobs.proofs.jobs.Jobs.desks.Goals as goal
 
 pub loop-preserved : goal.loop-preserved
