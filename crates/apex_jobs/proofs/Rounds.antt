@@ -72,7 +72,7 @@ module _ {W : Type 0} (word_count : ℕ) (is_workspace : W → Type 0) (old : Li
 -- What is gathered from desks at which states were expanded.
 module _ {W : Type 0} (step : List ℕ → ℕ → Step (List ℕ)) (word_count : ℕ) (is_state : List ℕ → Type 0) (is_workspace : W → Type 0) (reached : Reached) (from limit size : ℕ) (desks : List (Desk W))
     (made : (place : ℕ) (desk : Desk W) → slice_get desks place ≡ Some desk
-        → IsMade step word_count is_state is_workspace reached (start_at from limit size place) (start_at from limit size (place + 1)) desk) where
+    → IsMade step word_count is_state is_workspace reached (start_at from limit size place) (start_at from limit size (place + 1)) desk) where
   pub AreExpansions-gathered : from ≤ limit → limit ≤ from + size * length desks → (expansions : List Expansion) → AreGathered desks expansions → AreExpansions step is_state reached from limit expansions
   AreExpansions-gathered in_order whole expansions gathered =
       let whole' : limit ≤ from + size * length expansions = rw gathered.count whole in

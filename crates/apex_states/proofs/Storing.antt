@@ -1,5 +1,5 @@
 -- The states that are stored.
-use Rattle.std.proofs.Common.{◌≡◌, ℕ, zero, suc, ◌+◌, ◌*◌, ◌/◌, ◌≤◌, true, false, List, [], ◌∷◌, ◌++◌, length, length-append, map, replicate, take, drop, Some, refl, sym, ap, ◌∙◌, subst, arith, inl, inr}
+use Rattle.std.proofs.Common.{◌≡◌, ℕ, zero, suc, ◌+◌, ◌-◌, ◌*◌, ◌/◌, ◌≤◌, true, false, List, [], ◌∷◌, ◌++◌, length, length-append, map, replicate, take, drop, Some, refl, sym, ap, ◌∙◌, subst, arith, inl, inr}
 use Rattle.std.proofs.lemmas.List.{drop-replicate, length-drop, length-map, length-replicate, map-append, take-append-drop}
 use Rattle.std.proofs.lemmas.Option.{same_Some, slice_get-map}
 use Rattle.std.specs.List.{slice_get}
@@ -94,17 +94,17 @@ IsStored-start width part room size roots nodes origins capacity words roots_is 
     let long : length words ≡ 8 * part = ap length words_are ∙ length-replicate (8 * part) 0 in
     let wide : width ≤ 8 * part = omega (arith, part_is) in
     rw (roots_is, nodes_is, origins_is) (record {
-  one = refl;
-  apart = λ i j k one other. cc;
-  exact = record { parts = λ i j k one other. cc; pairs = λ i j k one other. cc; one = refl };
-  long = omega (arith, long);
-  wide = omega (arith, long, wide);
-  part = part_is;
-  rest = ap (drop width) (words_are ∙ ap (λ n. replicate (8 * n) 0) part_is) ∙ drop-replicate width (all_words width) 0;
-  valid = λ place row is. cc;
-  paired = refl;
-  reserved = reserved;
-})
+      one = refl;
+      apart = λ i j k one other. cc;
+      exact = record { parts = λ i j k one other. cc; pairs = λ i j k one other. cc; one = refl };
+      long = omega (arith, long);
+      wide = omega (arith, long, wide);
+      part = part_is;
+      rest = ap (drop width) (words_are ∙ ap (λ n. replicate (8 * n) 0) part_is) ∙ drop-replicate width (all_words width) 0;
+      valid = λ place row is. cc;
+      paired = refl;
+      reserved = reserved;
+    })
 
 -- the states are apart
 pub stored_apart : (width : ℕ) (roots : Packed) (nodes : Nodes) (origins : List Origin) (capacity : ℕ) (words : List ℕ) → IsStored width roots nodes origins capacity words → AreApart (states_in nodes width roots.rows)
@@ -274,7 +274,7 @@ module _ (width : ℕ) (roots : Packed) (nodes nodes' : Nodes) (origins : List O
 -- What is put into a lens.
 
 filled_long : (width : ℕ) (k : List ℕ) → length k ≡ width → length (k ++ filling width) ≡ all_words width
-filled_long width k long = omega (arith, long, length-append k (filling width), length-replicate (all_words width - width) 0)
+filled_long width k long = omega (arith, long, length-append k (filling width), length-replicate {A = ℕ} (all_words width - width) 0)
 
 -- the words that are asked for if a state is put into a lens
 pub to_show : (nodes : Nodes) (width pair : ℕ) (here lent k : List ℕ) → IsFilled width here → lent ≡ here → length k ≡ width → Joins (IsTree nodes DEPTH) (pair ∷ []) (k ++ filling width)

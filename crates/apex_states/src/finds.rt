@@ -97,12 +97,7 @@ impl Finds {
 
     /// Puts the state behind the others, unless it is there and was found a short time before. Fails only
     /// for want of memory.
-    pub fn put(
-        &mut self,
-        state: &[u64],
-        origin: Origin,
-        guess: Guess,
-    ) -> Result<(), AllocError>
+    pub fn put(&mut self, state: &[u64], origin: Origin, guess: Guess) -> Result<(), AllocError>
         requires { length state.now ≡ self.old.width }
         ensures { IfOk result (λ _. IsPut self.old state.now origin self.new) }
     {

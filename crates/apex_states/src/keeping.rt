@@ -8,11 +8,7 @@ use std::alloc::{AllocError, Global};
 
 /// Keeps the states that were found, in order, until there is no room for one: false then.
 /// Fails only for want of memory.
-pub fn keep_all(
-    alloc: Global,
-    states: &mut States,
-    finds: &Finds,
-) -> Result<bool, AllocError>
+pub fn keep_all(alloc: Global, states: &mut States, finds: &Finds) -> Result<bool, AllocError>
     requires paired { length states.old.origins ≡ length states.old.states }
     requires width { finds.now.width ≡ states.old.width }
     ensures { IfOk result (AreKept finds.now states.old states.new) }

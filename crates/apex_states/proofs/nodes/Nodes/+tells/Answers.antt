@@ -1,6 +1,5 @@
 use Rattle.std.proofs.Common.{◌≡◌, suc, ◌+◌, ◌-◌, ◌*◌, ◌<◌, [], ◌∷◌, length, Some, slice_index_or, sym, ap, ◌∙◌, arith}
 use Rattle.std.specs.List.{slice_get}
-use Rattle.apex_states.specs.Nodes.{IsTree, spread}
 use Rattle.apex_states.proofs.Trees.{halves_whole, single, spread-less, IsHeld-refl, IsTree-paired, Joins-halves}
 use Rattle.apex_states.proofs.nodes.Nodes.+tells.Goals as goal
 
