@@ -119,7 +119,7 @@ IsFilling-put word_count is_state old new n origin (inr e) holds filling = rw e 
 -- nothing is found yet
 pub Finds-start : (step : List ℕ → ℕ → Step (List ℕ)) (states : List (List ℕ)) (from limit width : ℕ) → Finds step states from limit from (no_finds width)
 Finds-start step states from limit width = record {
-  from = λ at n origin find. let none = find.state in cc;
+  each = λ at n origin find. let none = find.state in cc;
   whole = λ place k choice above below. absurd (omega arith);
 }
 
@@ -130,8 +130,8 @@ module _ (step : List ℕ → ℕ → Step (List ℕ)) (states : List (List ℕ)
   -- what choices in one more state find
   pub Finds-more : (old new : Found) → from ≤ done → done < limit → FindsMore step done k old new → Finds step states from limit done old → Finds step states from limit done new
   Finds-more old new above below more finds = record {
-    from = λ at n origin find. elim (more.added at n origin find) [
-      | inl before ↦ finds.from at n origin before
+    each = λ at n origin find. elim (more.added at n origin find) [
+      | inl before ↦ finds.each at n origin before
       | inr (parent, leads) ↦ record {
         above = omega (arith, parent, above);
         below = omega (arith, parent, below);
@@ -146,7 +146,7 @@ module _ (step : List ℕ → ℕ → Step (List ℕ)) (states : List (List ℕ)
   -- one more state is done
   pub Finds-past : (found : Found) → ((choice : ℕ) → IsMet states found.states (step k choice)) → Finds step states from limit done found → Finds step states from limit (done + 1) found
   Finds-past found made finds = record {
-    from = finds.from;
+    each = finds.each;
     whole = λ place other choice over under there. elim (cases_lt place done) [
       | inl lt ↦ finds.whole place other choice over lt there
       | inr ge ↦

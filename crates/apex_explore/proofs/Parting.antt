@@ -81,6 +81,15 @@ module _ (step : List ℕ → ℕ → Step (List ℕ)) (is_state : List ℕ → 
       let origin_is = slice_get-get_or expansion.finds.origins at nowhere (omega (arith, short, expanded.filling.paired)) in
       (get_or expansion.finds.origins at nowhere, record { state = is; origin = origin_is })
 
+  -- the parent of what was found is there
+  pub find_parents : (place : ℕ) (origin : Origin) → slice_get expansion.finds.origins place ≡ Some origin → origin.parent < length old.states
+  find_parents place origin is =
+      let short = slice_get_within expansion.finds.origins place origin is in
+      let n = get_or expansion.finds.states place [] in
+      let state = slice_get-get_or expansion.finds.states place [] (omega (arith, short, expanded.filling.paired)) in
+      let child = expanded.finds.each place n origin (record { state = state; origin = is }) in
+      slice_get_within old.states origin.parent child.k child.is
+
 module _ (step : List ℕ → ℕ → Step (List ℕ)) (is_state : List ℕ → Type 0) (from limit : ℕ) (old new : Reached) (expansion : Expansion)
     (expanded : IsExpansion step is_state old from limit expansion)
     (goes_on : GoesOnWith expansion.finds old new) where
@@ -88,7 +97,7 @@ module _ (step : List ℕ → ℕ → Step (List ℕ)) (is_state : List ℕ → 
       → (parent : ℕ) × (from ≤ parent) × (parent < limit) × IsChild step new.states new.origins parent child
   children_kept child far near =
       let (at, k, origin, find, state_is, origin_is) = goes_on.added child far near in
-      let child = expanded.finds.from at k origin find in
+      let child = expanded.finds.each at k origin find in
       let now = goes_on.states_front.same origin.parent child.k child.is in
       (origin.parent, child.above, child.below, record { from = child.k; to = k; choice = origin.choice; origin = origin_is; from_is = now; to_is = state_is; leads = child.leads })
 
@@ -137,7 +146,7 @@ module _ (step : List ℕ → ℕ → Step (List ℕ)) (is_state : List ℕ → 
   taken_over : AreThere expansion.finds new false → Stops step new front stops.Over
   taken_over (at, n, is, unknown, full) =
       let (origin, find) = origin_at step is_state front.at fits.limit old expansion fits.expanded at n is in
-      let child = fits.expanded.finds.from at n origin find in
+      let child = fits.expanded.finds.each at n origin find in
       let now = goes_on.states_front.same origin.parent child.k child.is in
       (origin.parent, child.above, omega (arith, child.below, fits.level), (child.k, n, origin.choice, now, child.leads, unknown, full))
 
@@ -199,8 +208,8 @@ IsExpansion-later step is_state from limit old new expansion front width expande
   last = expanded.last;
   within = omega (arith, expanded.within, front.longer);
   finds = record {
-    from = λ at n origin find.
-        let child = expanded.finds.from at n origin find in
+    each = λ at n origin find.
+        let child = expanded.finds.each at n origin find in
         record { above = child.above; below = child.below; k = child.k; is = front.same origin.parent child.k child.is; leads = child.leads };
     whole = λ place k choice above below is.
         let short : place < length old.states = omega (arith, below, expanded.last, expanded.within) in

@@ -9,7 +9,7 @@ use Rattle.apex_explore.specs.declared.fronts.Front.{Front}
 use Rattle.apex_explore.specs.declared.parts.Expansion.{Expansion}
 use Rattle.apex_explore.specs.declared.search.Stop.{Stop}
 use Rattle.apex_explore.specs.Levels.{IsAt, IsChild, Keeps, Stops}
-use Rattle.apex_explore.specs.Systems.{Step, goes, hits}
+use Rattle.apex_explore.specs.Systems.{Step, refuses, goes, hits}
 
 -- the new states and origins go on with children of the states of a part, which are those from `from`
 -- on and before `limit`, and of the states before `at` all
@@ -60,7 +60,7 @@ pub record IsFrom (step : List ℕ → ℕ → Step (List ℕ)) (states : List (
 -- choices in those before `done` go on, but for states that are known
 pub record Finds (step : List ℕ → ℕ → Step (List ℕ)) (states : List (List ℕ)) (from limit done : ℕ)
     (found : Found) : Type 0 where
-  pub from : (at : ℕ) (n : List ℕ) (origin : Origin) → IsFind found at n origin
+  pub each : (at : ℕ) (n : List ℕ) (origin : Origin) → IsFind found at n origin
       → IsFrom step states from limit n origin
   pub whole : (place : ℕ) (k : List ℕ) (choice : ℕ) → from ≤ place → place < done
       → slice_get states place ≡ Some k → IsMet states found.states (step k choice)

@@ -187,11 +187,13 @@ impl<W: Drop> Search<W> {
         ensures states { IfOk result (λ _. IsFront self.old.states.states self.new.states.states) }
         ensures room { IfOk result (λ _. room_of self.new ≡ room_of self.old) }
     {
+        let state = self.state.as_mut_slice();
         take_all(
             alloc,
             system,
             &mut self.states,
             &mut self.front,
+            state,
             limit,
             expansions,
         )

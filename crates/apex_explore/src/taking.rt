@@ -17,11 +17,13 @@ fn take_part<S: System>(
     system: &S,
     states: &mut States,
     front: &mut Front,
+    state: &mut [u64],
     expansion: &Expansion,
 ) -> Result<Option<Stop>, AllocError>
     requires stands { let step = step_within (S.choice_count system.now) (S.step system.now) in
         Stands step (S.is_state system.now) (S.start system.now) (S.word_count system.now)
         states.old front.old }
+    requires state { length state.old ≡ S.word_count system.now }
     requires fits { let step = step_within (S.choice_count system.now) (S.step system.now) in
         FitsOne step (S.is_state system.now) states.old front.old expansion.now }
     ensures follows { let step = step_within (S.choice_count system.now) (S.step system.now) in
@@ -30,7 +32,7 @@ fn take_part<S: System>(
     ensures past { IfOk result (λ stop. stop ≡ None
         → IsPast expansion.now.end front.old front.new × (expansion.now.hit ≡ None)) }
 {
-    let kept = keep_all(alloc, states, &expansion.finds)?;
+    let kept = keep_all(alloc, states, state, &expansion.finds)?;
     if !kept {
         return Ok(Some(Stop::Over));
     }
@@ -48,12 +50,14 @@ pub(crate) fn take_all<S: System>(
     system: &S,
     states: &mut States,
     front: &mut Front,
+    state: &mut [u64],
     limit: usize,
     expansions: &[Expansion],
 ) -> Result<Option<Stop>, AllocError>
     requires stands { let step = step_within (S.choice_count system.now) (S.step system.now) in
         Stands step (S.is_state system.now) (S.start system.now) (S.word_count system.now)
         states.old front.old }
+    requires state { length state.old ≡ S.word_count system.now }
     requires fit { let step = step_within (S.choice_count system.now) (S.step system.now) in
         Fit step (S.is_state system.now) states.old front.old limit expansions.now }
     ensures follows { let step = step_within (S.choice_count system.now) (S.step system.now) in
@@ -62,7 +66,7 @@ pub(crate) fn take_all<S: System>(
     ensures past { IfOk result (λ stop. stop ≡ None → IsPast limit front.old front.new) }
 {
     for place in 0..expansions.len() {
-        let taken = take_part(alloc, system, states, front, &expansions[place])?;
+        let taken = take_part(alloc, system, states, front, state, &expansions[place])?;
         match taken {
             Some(stop) => return Ok(Some(stop)),
             None => {}

@@ -5,7 +5,7 @@ ghost use Rattle.apex_states.specs.Index.{IsKnown};
 
 use crate::index::home;
 use crate::rows::Rows;
-use crate::states::{Guess, NO_GUESS, Origin};
+use crate::states::{Guess, Origin};
 use std::alloc::{AllocError, Global};
 use std::marker::Model;
 
@@ -81,7 +81,7 @@ impl Finds {
     pub(crate) fn guess(&self, place: usize) -> Guess {
         match self.guesses.get(place) {
             Some(guess) => *guess,
-            None => NO_GUESS,
+            None => Guess::none(),
         }
     }
 

@@ -188,9 +188,40 @@ impl Nodes {
         self.is_tree(depth, pair.right, back)
     }
 
+    /// The number of the tree of these words, which are nearly these known ones: what they have in
+    /// common is not looked up. Fails only for want of memory.
+    #[cycle(likes)]
+    fn number_like(
+        &mut self,
+        alloc: Global,
+        depth: u32,
+        words: &[u64],
+        known: &[u64],
+        number: u32,
+    ) -> Result<u32, AllocError>
+        requires exact { IsExact self.old }
+        requires words { length words.now ≡ spread self.old.parts.width depth }
+        requires long { length known.now ≡ length words.now }
+        requires known { IsTree self.old depth number known.now }
+        ensures number { IfOk result (λ number. IsTree self.new depth number words.now) }
+        ensures held { IsHeld self.old self.new }
+        ensures exact { IsExact self.new }
+    {
+        if are_same(words, known) {
+            return Ok(number);
+        }
+        if depth == 0 {
+            return self.parts.number(alloc, words);
+        }
+        let pair = self.pairs.row(number as usize)[0];
+        let word = self.number_halves_like(alloc, depth - 1, words, known, pair)?;
+        self.pairs.number(alloc, &[word])
+    }
+
     /// The numbers of the trees of both halves of these words, in one word. They are nearly these
-    /// known ones, whose numbers are in `pair`: what they have in common is not looked up. `depth` is that
-    /// of a half. Fails only for want of memory.
+    /// known ones, whose numbers are in `pair`; `depth` is that of a half. Fails only for want of
+    /// memory.
+    #[cycle(likes)]
     pub(crate) fn number_halves_like(
         &mut self,
         alloc: Global,
@@ -209,24 +240,30 @@ impl Nodes {
         ensures held { IsHeld self.old self.new }
         ensures exact { IsExact self.new }
     {
-        match self.find_halves_like(depth, words, known, pair) {
-            Some(word) => Ok(word),
-            None => self.number_halves(alloc, depth, words),
-        }
+        let pair = Pair::of(pair);
+        let (front, back) = words.split_at(words.len() / 2);
+        let (known_front, known_back) = known.split_at(known.len() / 2);
+        let left = self.number_like(alloc, depth, front, known_front, pair.left)?;
+        let right = self.number_like(alloc, depth, back, known_back, pair.right)?;
+        Ok(Pair { left, right }.word())
     }
 
-    /// The numbers of the trees of both halves of these words, in one word. `guess` is this word, or any
-    /// other one; `depth` is that of a half. Fails only for want of memory.
+    /// The numbers of the trees of both halves of these words, in one word, as `number_halves_like` gives
+    /// them. `guess` is this word, or any other one. Fails only for want of memory.
     pub(crate) fn number_halves_guessed(
         &mut self,
         alloc: Global,
         depth: u32,
         words: &[u64],
+        known: &[u64],
+        pair: u64,
         guess: u64,
     ) -> Result<u64, AllocError>
         requires exact { IsExact self.old }
         requires words { length words.now
             ≡ spread self.old.parts.width depth + spread self.old.parts.width depth }
+        requires long { length known.now ≡ length words.now }
+        requires known { Joins (IsTree self.old depth) (pair ∷ []) known.now }
         ensures halves { IfOk result (λ word.
             Joins (IsTree self.new depth) (word ∷ []) words.now) }
         ensures held { IsHeld self.old self.new }
@@ -235,7 +272,7 @@ impl Nodes {
         if self.are_halves(depth, guess, words) {
             return Ok(guess);
         }
-        self.number_halves(alloc, depth, words)
+        self.number_halves_like(alloc, depth, words, known, pair)
     }
 
     /// Puts the words of the tree with this number into these.

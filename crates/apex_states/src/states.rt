@@ -30,10 +30,21 @@ pub struct Guess {
     pub(crate) pair: u64,
 }
 
-/// The guess if nothing is known.
-pub(crate) const NO_GUESS: Guess = Guess {
+/// The guess if nothing is known. These numbers are those of no halves.
+const NO_GUESS: Guess = Guess {
     pair: 0xffff_ffff_ffff_ffff,
 };
+
+impl Guess {
+    /// Nothing is known.
+    pub(crate) fn none() -> Guess {
+        NO_GUESS
+    }
+
+    pub(crate) fn is_none(self) -> bool {
+        self.pair == NO_GUESS.pair
+    }
+}
 
 /// States in the order in which they were found, each once, and the origin of each.
 ///
@@ -172,7 +183,7 @@ impl States {
     {
         let pair = self.roots.row(place)[0];
         let Some(pair) = lens.find(&self.nodes, pair, state) else {
-            return Some(NO_GUESS);
+            return Some(Guess::none());
         };
         match self.roots.find(&[pair]) {
             Some(_) => None,
@@ -180,7 +191,8 @@ impl States {
         }
     }
 
-    /// Keeps the state as `keep` does. It takes less time if the guess at its numbers is right.
+    /// Keeps the state as `keep` does. It takes less time if the guess at its numbers is right. If it is
+    /// not, it takes less time if the state is nearly the one that was restored last.
     pub fn keep_guessed(
         &mut self,
         alloc: Global,
@@ -192,10 +204,10 @@ impl States {
         ensures { IfOk result (λ kept. IsKept self.old state.now origin kept self.new) }
     {
         put_front(self.words.as_mut_slice(), state);
-        let words = self.words.as_slice();
+        let (words, here) = (self.words.as_slice(), self.here.as_slice());
         let word = self
             .nodes
-            .number_halves_guessed(alloc, DEPTH, words, guess.pair)?;
+            .number_halves_guessed(alloc, DEPTH, words, here, self.pair, guess.pair)?;
         match self.roots.enter(&[word]) {
             Entered::Known(_) => Ok(true),
             Entered::New(_) => {

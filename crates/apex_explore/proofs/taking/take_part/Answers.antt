@@ -1,7 +1,13 @@
 -- A part that is taken.
 use Rattle.apex_explore.specs.Systems.{step_within}
-use Rattle.apex_explore.proofs.Parting.{Follows-over, Follows-past, Follows-struck}
+use Rattle.apex_explore.proofs.Parting.{find_parents, Follows-over, Follows-past, Follows-struck}
 use Rattle.apex_explore.proofs.taking.take_part.Goals as goal
+
+pub keep_all-requires-clause-parents : goal.keep_all-requires-clause-parents
+keep_all-requires-clause-parents g c =
+    let step = step_within (g.S.System.choice_count c.args.system.now) (g.S.System.step c.args.system.now) in
+    let fits = c.requires.fits in
+    find_parents step (g.S.System.is_state c.args.system.now) c.args.front.now.at fits.limit c.args.states.now c.args.expansion.now fits.expanded
 
 pub returns-then-not-kept-clause-follows : goal.returns-then-not-kept-clause-follows
 returns-then-not-kept-clause-follows g c =

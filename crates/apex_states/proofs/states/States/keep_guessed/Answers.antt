@@ -82,3 +82,8 @@ returns-in-Full c =
     let Is : List ℕ → Type 0 = λ ws. Joins (IsTree c.number_halves_guessed.new.self DEPTH) (c.in_ok-word.word ∷ []) ws in
     let joins = subst Is (c.as_slice-words.ensures.value ∙ split.2) c.in_ok-word.ensures.halves in
     rw (← c.self.view_is) (keep_full c.self.inside.width c.self.inside.roots c.self.inside.nodes c.number_halves_guessed.new.self c.self.inside.origins.items (vec_capacity c.self.inside.origins) words c.args.state.now (c.in_ok-word.word ∷ []) c.self.invariant.0 c.number_halves_guessed.ensures.held c.number_halves_guessed.ensures.exact long joins c.enter.new.self c.args.origin c.in-Full.ensures)
+
+pub number_halves_guessed-requires-clause-known : goal.number_halves_guessed-requires-clause-known
+number_halves_guessed-requires-clause-known c =
+    let Is : List ℕ → Type 0 = λ ws. Joins (IsTree c.self.inside.nodes DEPTH) (c.self.inside.pair ∷ []) ws in
+    subst Is (sym c.as_slice-here.ensures.value) c.self.invariant.1.joins
