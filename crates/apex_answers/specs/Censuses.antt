@@ -6,10 +6,10 @@ use Rattle.apex_search.specs.declared.census.Census.{Census}
 use Rattle.apex_search.specs.declared.census.End.{End}
 use Rattle.apex_search.specs.declared.census.End.TheVariants.{Closed, Full}
 use Rattle.apex_search.specs.declared.census.Finding.{Finding}
-use Rattle.apex_search.specs.declared.facts.Fact.{Fact}
+use Rattle.apex_questions.specs.declared.Fact.{Fact}
 use Rattle.apex_answers.specs.Answers.{SearchEnd, finds, is_full, never}
 use Rattle.apex_answers.specs.Texts.{states_text, within_text}
-use Rattle.apex_answers.specs.Words.{word_of}
+use Rattle.apex_questions.specs.Words.{word_of}
 
 -- the word, or `-` if there is none
 abbrev pub or_dash : Option (List ℕ) → List ℕ

@@ -1,4 +1,3 @@
-pub mod Words
 pub mod Texts
 pub mod Answers
 pub mod Censuses

@@ -5,9 +5,9 @@ ghost use Rattle.apex_history.specs.Counted.{inner_of, failures_of, CountsFailur
 ghost use Rattle.apex_answers.specs.Censuses.{census_text, end_text, finding_line, word_or_dash};
 
 use crate::texts::{Text, none_within_states, put_number, states_line};
-use crate::words::word_of;
 use apex_history::{Counted, Sink};
-use apex_search::{Census, End, Fact, Finding};
+use apex_questions::{Fact, word_of};
+use apex_search::{Census, End, Finding};
 use std::io::{Result, Write};
 
 /// The word of a fact, or `-` if it has none.

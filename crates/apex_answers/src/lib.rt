@@ -6,10 +6,8 @@ mod answers;
 mod census;
 mod printing;
 mod texts;
-mod words;
 mod worst;
 
 pub use answers::{SearchAnswer, answer_of};
 pub use census::print_census;
-pub use words::{fact_of, word_of};
 pub use worst::{WorstAnswer, worst_of};

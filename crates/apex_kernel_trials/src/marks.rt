@@ -1,7 +1,8 @@
 //! The mark of a departure in a picture.
 
 use crate::axes::{drawn, frame_of};
-use apex_pictures::{Axis, Mark};
+use apex_pictures::Mark;
+use apex_scales::Axis;
 use apex_types::{CoreId, Event};
 use std::alloc::Global;
 use std::process::Abort;

@@ -3,7 +3,7 @@ ghost use Rattle.std.specs.Prelude.{◌≡◌, All};
 ghost use Rattle.apex_machine.specs.Events.{IsWithin};
 
 use crate::axes::{drawn, find_in_order, frame_of};
-use apex_pictures::Axis;
+use apex_scales::Axis;
 use apex_types::{CoreId, Event, ProcessId};
 use std::alloc::Global;
 use std::process::Abort;

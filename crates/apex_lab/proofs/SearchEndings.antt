@@ -13,7 +13,7 @@ use Rattle.apex_lab.specs.Searches.{IsAnswerFor, IsRefusalOf, SearchEnds, answer
 use Rattle.apex_lab.specs.declared.searching.LabAnswer.{LabAnswer}
 use Rattle.apex_lab.specs.declared.faults.LabFault.{LabFault}
 use Rattle.apex_lab.specs.declared.faults.LabFault.TheVariants.{Common, Empty, NoEntry, NoProcess, Schedule, StatesFull}
-use Rattle.apex_lab.specs.declared.questions.Search.{Search}
+use Rattle.apex_questions.specs.declared.Search.{Search}
 
 module _ {search : Search} {before after : Ports} where
   -- bytes that were not read

@@ -16,7 +16,7 @@ use Rattle.apex_search.specs.Census.{IsCensus}
 use Rattle.apex_search.specs.Steps.{Searched}
 use Rattle.apex_search.specs.declared.Census.{Census}
 use Rattle.apex_search.specs.declared.End.TheVariants.{Closed}
-use Rattle.apex_search.specs.declared.Fact.{Fact}
+use Rattle.apex_questions.specs.declared.Fact.{Fact}
 use Rattle.apex_search.specs.declared.Finding.{Finding}
 use Rattle.apex_table.specs.Reading.{table_of}
 use Rattle.apex_table.specs.declared.TableFault.{TableFault}
@@ -25,8 +25,8 @@ use Rattle.apex_lab.specs.Ends.{complete}
 use Rattle.apex_lab.specs.Ends as program
 use Rattle.apex_lab.specs.declared.faults.LabFault.{LabFault}
 use Rattle.apex_lab.specs.declared.faults.LabFault.TheVariants.{Common, Empty, NoEntry, NoProcess, Schedule, StatesFull}
-use Rattle.apex_lab.specs.declared.questions.Search.{Search}
-use Rattle.apex_lab.specs.declared.questions.Sought.TheVariants as sought
+use Rattle.apex_questions.specs.declared.Search.{Search}
+use Rattle.apex_questions.specs.declared.Sought.TheVariants as sought
 use Rattle.apex_lab.specs.declared.searching.LabAnswer.TheVariants as answers
 
 -- memory was refused, or the text is no table, by the result of reading it

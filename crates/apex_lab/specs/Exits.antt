@@ -4,10 +4,10 @@ use Rattle.std.specs.Io.KnownBytes.{Keeps}
 use Rattle.apex_history.specs.Ports.{Ports, NoneFails}
 use Rattle.apex_console.specs.declared.CliFault.TheVariants.{Memory, Usage}
 use Rattle.apex_objects.specs.declared.Form.{Form}
-use Rattle.apex_views.specs.Faults.{IsBadIn}
-use Rattle.apex_views.specs.Showings.{Showing, Source}
+use Rattle.apex_showings.specs.Schedules.{IsBadIn}
+use Rattle.apex_showings.specs.Showings.{Showing, Source}
 use Rattle.apex_views.specs.Shows.{ShowEnd, ShowEnds}
-use Rattle.apex_views.specs.declared.BadSchedule.{BadSchedule}
+use Rattle.apex_showings.specs.declared.BadSchedule.{BadSchedule}
 use Rattle.apex_lab.specs.Checks.{CheckEnds}
 use Rattle.apex_lab.specs.Dumps.{DumpEnds}
 use Rattle.apex_lab.specs.Ends.{End, end_of_showing, fails}
@@ -17,7 +17,7 @@ use Rattle.apex_lab.specs.Steps.{StepEnds}
 use Rattle.apex_lab.specs.Tasks.{Asked, Unasked, ill_formed, no_schedule, to_check, to_dump, to_lint, to_search, to_show, to_step, to_why}
 use Rattle.apex_lab.specs.Whys.{WhyEnds}
 use Rattle.apex_lab.specs.declared.faults.LabFault.TheVariants.{Common, Schedule as BadText}
-use Rattle.apex_lab.specs.declared.questions.Search.{Search}
+use Rattle.apex_questions.specs.declared.Search.{Search}
 
 -- The ways in which the program ends: by what it is asked to do, the reader and the writer before,
 -- the end, and the reader and the writer afterwards.

@@ -5,12 +5,12 @@ use Rattle.apex_types.specs.Name.{is_name}
 use Rattle.apex_calls.specs.Catalogue.{Row, row_in, rows}
 use Rattle.apex_calls.specs.declared.Service.{Service}
 use Rattle.apex_pace.specs.declared.paces.Pace.{Pace}
-use Rattle.apex_answers.specs.Words.{fact_of}
+use Rattle.apex_questions.specs.Words.{fact_of}
 use Rattle.apex_lab.specs.Numbers.{jobs_in, pace_in, room_in}
 use Rattle.apex_lab.specs.Words.{SearchSaid}
-use Rattle.apex_lab.specs.declared.questions.Search.{Search}
-use Rattle.apex_lab.specs.declared.questions.Sought.{Sought}
-use Rattle.apex_lab.specs.declared.questions.Sought.TheVariants.{Fact, Facts, Response}
+use Rattle.apex_questions.specs.declared.Search.{Search}
+use Rattle.apex_questions.specs.declared.Sought.{Sought}
+use Rattle.apex_questions.specs.declared.Sought.TheVariants.{Fact, Facts, Response}
 
 -- the name that a text is
 abbrev pub name_of : Text → Option Text

@@ -10,9 +10,9 @@ use Rattle.apex_history.specs.Ports.{AReadFails, AWriteFails, NoneFails, Ports}
 use Rattle.apex_machine.specs.table.Table.{Table}
 use Rattle.apex_pace.specs.declared.paces.Pace.{Pace}
 use Rattle.apex_calls.specs.declared.Service.{Service}
-use Rattle.apex_search.specs.Facts.{all_facts}
+use Rattle.apex_questions.specs.Facts.{all_facts}
 use Rattle.apex_search.specs.Steps.{Searched, searched}
-use Rattle.apex_search.specs.declared.Fact.{Fact}
+use Rattle.apex_questions.specs.declared.Fact.{Fact}
 use Rattle.apex_table.specs.Reading.{table_of}
 use Rattle.apex_table.specs.declared.TableFault.{TableFault}
 use Rattle.apex_answers.specs.Answers.{IsAnswerOf, Says, SearchEnd, answer_end, answer_text, finds, is_beyond, is_full, never}
@@ -25,13 +25,13 @@ use Rattle.apex_search.specs.Census.{IsCensus}
 use Rattle.apex_search.specs.declared.Census.{Census}
 use Rattle.apex_lab.specs.declared.searching.LabAnswer.{LabAnswer}
 use Rattle.apex_lab.specs.declared.searching.LabAnswer.TheVariants as answers
-use Rattle.apex_lab.specs.declared.questions.Sought.{Sought}
-use Rattle.apex_lab.specs.declared.questions.Sought.TheVariants as sought
+use Rattle.apex_questions.specs.declared.Sought.{Sought}
+use Rattle.apex_questions.specs.declared.Sought.TheVariants as sought
 use Rattle.apex_lab.specs.Ends.{End, complete, fails}
 use Rattle.apex_lab.specs.Ends as program
 use Rattle.apex_lab.specs.declared.faults.LabFault.{LabFault}
 use Rattle.apex_lab.specs.declared.faults.LabFault.TheVariants.{Common, NoProcess, StatesFull}
-use Rattle.apex_lab.specs.declared.questions.Search.{Search}
+use Rattle.apex_questions.specs.declared.Search.{Search}
 
 -- the place of the process that a search is about, if it is about one; none if the table has no such
 -- process

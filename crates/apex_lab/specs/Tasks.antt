@@ -8,19 +8,19 @@ use Rattle.apex_schedules.specs.declared.Item.{Item}
 use Rattle.apex_schedules.specs.Groups.{grouped_items_of}
 use Rattle.apex_schedules.specs.Schedule.{positive_of}
 use Rattle.apex_objects.specs.declared.Form.{Form}
-use Rattle.apex_pictures.specs.declared.Axis.{Axis}
-use Rattle.apex_views.specs.Faults.{IsBadIn}
-use Rattle.apex_views.specs.Showings.{Chart, Showing, Source, View, drawn, history, listed, paced, schedule, schedule_read, showing_said, showing_with, source_said, svg, trace}
+use Rattle.apex_scales.specs.declared.Axis.{Axis}
+use Rattle.apex_showings.specs.Schedules.{IsBadIn}
+use Rattle.apex_showings.specs.Showings.{Chart, Showing, Source, View, drawn, history, listed, paced, schedule, schedule_read, showing_said, showing_with, source_said, svg, trace}
 use Rattle.apex_lab.specs.Lints.{Lint, lint_asked, lint_said}
 use Rattle.apex_lab.specs.Names.{names_in}
 use Rattle.apex_lab.specs.Numbers.{pace_in, tick_in, time_of}
 use Rattle.apex_lab.specs.Questions.{search_asked}
 use Rattle.apex_lab.specs.Windows.{axis_in, window_between}
 use Rattle.apex_lab.specs.Words.{Given, Request, Shown, as_listing, as_svg, as_trace, by_history, by_pace, by_schedule, by_schedule_read, check_of, dump_of, lint_of, request_of, search_of, show_of, step_of, why_of}
-use Rattle.apex_views.specs.declared.Window.{Window}
+use Rattle.apex_showings.specs.declared.Window.{Window}
 use Rattle.apex_lab.specs.declared.faults.LabFault.{LabFault}
 use Rattle.apex_lab.specs.declared.faults.LabFault.TheVariants.{Common, Empty, NoEntry, NoProcess, Schedule as BadText, StatesFull}
-use Rattle.apex_lab.specs.declared.questions.Search.{Search}
+use Rattle.apex_questions.specs.declared.Search.{Search}
 use Rattle.apex_lab.specs.declared.tasks.Task.{Task}
 use Rattle.apex_lab.specs.declared.tasks.Task.TheVariants as task
 

@@ -8,7 +8,7 @@ use Rattle.apex_history.specs.Ports.{Ports}
 use Rattle.apex_console.specs.declared.CliFault.{CliFault}
 use Rattle.apex_console.specs.declared.CliFault.TheVariants.{Memory, Write}
 use Rattle.apex_departures.specs.Why.{IsReasonAt, LacksEvent}
-use Rattle.apex_views.specs.Showings.{Source}
+use Rattle.apex_showings.specs.Showings.{Source}
 use Rattle.apex_views.specs.Departures.{Departure}
 use Rattle.apex_views.specs.Shows.{Gives, Outcome, ShowEnd, parts, shows, stops}
 use Rattle.apex_lab.specs.Ends.{End, complete, departs, end_of_showing, fails}

@@ -2,13 +2,13 @@
 use Rattle.std.specs.Prelude.{ℕ, Option, Some, None, codes, drop, take, if◌then◌else◌, option_and_then, option_map}
 use Rattle.std.specs.Str.{bytes_eq}
 use Rattle.clap.specs.Words.{Text}
-use Rattle.apex_pictures.specs.declared.Axis.{Axis}
-use Rattle.apex_pictures.specs.declared.Axis.TheVariants as axis
+use Rattle.apex_scales.specs.declared.Axis.{Axis}
+use Rattle.apex_scales.specs.declared.Axis.TheVariants as axis
 use Rattle.apex_schedules.specs.Schedule.{positive_of}
 use Rattle.apex_types.specs.declared.limits.TheConstants.{MOST_ENTRIES}
-use Rattle.apex_views.specs.declared.Bound.{Bound}
-use Rattle.apex_views.specs.declared.Bound.TheVariants.{Entry, Time}
-use Rattle.apex_views.specs.declared.Window.{Window}
+use Rattle.apex_showings.specs.declared.Bound.{Bound}
+use Rattle.apex_showings.specs.declared.Bound.TheVariants.{Entry, Time}
+use Rattle.apex_showings.specs.declared.Window.{Window}
 use Rattle.apex_lab.specs.Numbers.{time_of}
 
 -- the bound that a text says: `t=` and a time in ticks, or the number of an entry

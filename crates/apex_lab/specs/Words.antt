@@ -6,8 +6,8 @@ use Rattle.apex_console.specs.Words.{flag_rule, option_rule, program_alone, requ
 use Rattle.apex_objects.specs.declared.Form.{Form}
 use Rattle.apex_objects.specs.declared.Form.TheVariants as forms
 use Rattle.apex_lab.specs.declared.words.LintWords.{LintWords}
-use Rattle.apex_views.specs.declared.Listing.{Listing}
-use Rattle.apex_views.specs.declared.Listing.TheVariants.{Lines, Status, Report, Schedule}
+use Rattle.apex_showings.specs.declared.Listing.{Listing}
+use Rattle.apex_showings.specs.declared.Listing.TheVariants.{Lines, Status, Report, Schedule}
 use Rattle.apex_lab.specs.declared.words.Request.{Request as RequestIn}
 use Rattle.apex_lab.specs.declared.words.Request.TheVariants as request
 use Rattle.apex_lab.specs.declared.words.SearchWords.{SearchWords}

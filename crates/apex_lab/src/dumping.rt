@@ -3,7 +3,7 @@ ghost use Rattle.std.specs.Prelude.{◌≡◌, IfOk};
 ghost use Rattle.apex_history.specs.Counted.{inner_of, failures_of};
 ghost use Rattle.apex_console.specs.Streams.{ports_of};
 ghost use Rattle.apex_views.specs.Departures.{departure_said};
-ghost use Rattle.apex_views.specs.Showings.{source_said};
+ghost use Rattle.apex_showings.specs.Showings.{source_said};
 ghost use Rattle.apex_views.specs.Shows.{outcome_with, parts};
 ghost use Rattle.apex_lab.specs.Dumps.{DumpEnds, IsDumpOf, OutcomeDumpEnds, RunDumpEnds, end_behind, end_with};
 ghost use Rattle.apex_lab.specs.Ends.{end_in};

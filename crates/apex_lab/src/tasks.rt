@@ -1,7 +1,7 @@
 //! What the program is asked to do.
 ghost use Rattle.std.specs.Prelude.{◌≡◌, IfOk, IfErr, Ok, Some, option_map, map, string_bytes};
 ghost use Rattle.apex_schedules.specs.Schedule.{positive_of};
-ghost use Rattle.apex_views.specs.Showings.{chart_said, showing_said, source_said, view_said};
+ghost use Rattle.apex_showings.specs.Showings.{chart_said, showing_said, source_said, view_said};
 ghost use Rattle.apex_lab.specs.Tasks.{IsInRange, IsUnasked, asked_by, asked_in_request, chart_in, paced_source, showing_of, source_in, task_said, to_why, view_in, why_asked};
 ghost use Rattle.apex_lab.specs.Words.{given_said, request_said, shown_said};
 

@@ -2,7 +2,7 @@
 ghost use Rattle.std.specs.Prelude.{◌≡◌, ◌++◌, codes, OnErr, OnOk};
 ghost use Rattle.apex_history.specs.Counted.{inner_of, failures_of, CountsFailure};
 ghost use Rattle.apex_console.specs.Streams.{HasWritten, HasWrittenSome, ports_of};
-ghost use Rattle.apex_views.specs.Showings.{source_said};
+ghost use Rattle.apex_showings.specs.Showings.{source_said};
 ghost use Rattle.apex_lab.specs.Ends.{end_in};
 ghost use Rattle.apex_views.specs.Shows.{outcome_with};
 ghost use Rattle.apex_lab.specs.Whys.{AnswerEnds, OutcomeWhyEnds, WhyEnds};

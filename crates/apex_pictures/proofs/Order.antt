@@ -10,7 +10,7 @@ use Rattle.apex_pictures.specs.Instants.{instant_after, next_instant, time_at, w
 use Rattle.apex_pictures.specs.Laws.{AreInOrder}
 use Rattle.apex_pictures.specs.Terms.{Event}
 use Rattle.apex_pictures.specs.declared.instants.Instant.{Instant}
-use Rattle.apex_pictures.specs.declared.instants.TheConstants.{LEAST_TICK}
+use Rattle.apex_scales.specs.declared.ticks.TheConstants.{LEAST_TICK}
 use Rattle.apex_pictures.proofs.NextInstants.{place_within}
 use Rattle.apex_pictures.proofs.Pictured.{instant_more, timed_machine}
 

@@ -3,8 +3,8 @@ use Rattle.std.specs.Prelude.{ℕ, ◌+◌, ◌-◌, ◌*◌, ◌/◌, List, map
 use Rattle.apex_pictures.specs.Excerpts.{last_drawn}
 use Rattle.apex_pictures.specs.Places.{of_places}
 use Rattle.apex_pictures.specs.Terms.{Entry}
-use Rattle.apex_pictures.specs.declared.axes.Axis.{Axis}
-use Rattle.apex_pictures.specs.declared.axes.Axis.TheVariants.{Entries, Time}
+use Rattle.apex_scales.specs.declared.Axis.{Axis}
+use Rattle.apex_scales.specs.declared.Axis.TheVariants.{Entries, Time}
 use Rattle.apex_pictures.specs.declared.axes.TheConstants.{COLUMN, MOST_ROOM, TICK}
 use Rattle.apex_pictures.specs.declared.excerpts.Extent.{Extent}
 

@@ -1,15 +1,9 @@
 -- The instants of a trace. The moments of one time follow one another from the beginning of the tick: the first
 -- hundred a thousandth of the tick apart, the others a hundredth of that, so that all moments of a history have room
 -- in the tick. The axis has microseconds, and the length of a tick is given in them; times are nanoseconds.
-use Rattle.std.specs.Prelude.{ℕ, ◌+◌, ◌*◌, ◌-◌, ◌/◌, ◌%◌, List, [], ◌∷◌, ◌++◌, ◌==◌, Option, if◌then◌else◌, codes, decimal, nat_lt}
-use Rattle.apex_types.specs.Numbers.{at_least, at_most}
+use Rattle.std.specs.Prelude.{ℕ, ◌+◌, ◌*◌, ◌-◌, ◌/◌, ◌%◌, List, [], ◌∷◌, ◌++◌, ◌==◌, if◌then◌else◌, codes, decimal, nat_lt}
 use Rattle.apex_pictures.specs.Terms.{Entry}
 use Rattle.apex_pictures.specs.declared.instants.Instant.{Instant}
-use Rattle.apex_pictures.specs.declared.instants.TheConstants.{LEAST_TICK, LONGEST_TICK}
-
--- the length of a tick of this many microseconds, if a tick may have it
-abbrev pub tick_length : Option ℕ → Option ℕ
-tick_length microseconds = at_least LEAST_TICK (at_most LONGEST_TICK microseconds)
 
 -- the instant of the moment before any entry
 abbrev pub opening_instant : Instant

@@ -9,11 +9,11 @@ use Rattle.apex_machine.specs.table.Table.{IsLawful, Table}
 use Rattle.apex_pictures.specs.Axes.{place_of, time_of}
 use Rattle.apex_pictures.specs.Counts.{Counts, content_of, displayed_on, raised_of, value_of}
 use Rattle.apex_pictures.specs.Instants.{instant_after, time_at}
-use Rattle.apex_pictures.specs.declared.instants.TheConstants.{LEAST_TICK}
+use Rattle.apex_scales.specs.declared.ticks.TheConstants.{LEAST_TICK}
 use Rattle.apex_pictures.specs.Moments.{Column, no_cell, picture}
 use Rattle.apex_pictures.specs.Terms.{Cell, Entry, Event}
-use Rattle.apex_pictures.specs.declared.axes.Axis.{Axis}
-use Rattle.apex_pictures.specs.declared.axes.Axis.TheVariants.{Time}
+use Rattle.apex_scales.specs.declared.Axis.{Axis}
+use Rattle.apex_scales.specs.declared.Axis.TheVariants.{Time}
 use Rattle.apex_pictures.specs.declared.axes.TheConstants.{COLUMN, MOST_ROOM, TICK}
 
 -- the cell of process p in a column

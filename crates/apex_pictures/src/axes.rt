@@ -7,6 +7,7 @@ ghost use Rattle.apex_pictures.specs.declared.excerpts.TheConstants.{MOST_COLUMN
 
 use crate::excerpts::Extent;
 use apex_dispatch::Kernel;
+use apex_scales::Axis;
 use apex_store::Store;
 use std::alloc::{AllocError, Global};
 
@@ -18,15 +19,6 @@ pub const TICK: u32 = 8;
 
 /// The most room that the ticks of a picture have, in pixels.
 pub const MOST_ROOM: u32 = 32_000;
-
-/// The axis along which the columns of a picture stand.
-#[derive(Clone, Copy, Debug, PartialEq, Eq)]
-pub enum Axis {
-    /// By the numbers of their entries: they stand side by side.
-    Entries,
-    /// By the times of their entries: ticks without an entry have room of their own.
-    Time,
-}
 
 /// The width of these ticks, out of `all` ticks that are drawn.
 fn ticks_width(all: u64, ticks: u64) -> u32

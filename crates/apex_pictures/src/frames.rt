@@ -5,7 +5,7 @@ ghost use Rattle.apex_pictures.specs.Excerpts.{excerpt_of, first_drawn, last_dra
 ghost use Rattle.apex_pictures.specs.Rows.{HasRows};
 ghost use Rattle.apex_pictures.specs.Svg.{behind, column_at, column_place, column_width, has_row, heading_of, row_of, shows};
 
-use crate::axes::{Axis, behind_of, last_column, places_of};
+use crate::axes::{behind_of, last_column, places_of};
 use crate::excerpts::{Excerpt, Extent};
 use crate::marks::Mark;
 use crate::rows::{ROW, Rows};
@@ -13,6 +13,7 @@ use crate::svg::{MOST_CALL, bare_line};
 use crate::words::name_of;
 use apex_configs::Table;
 use apex_dispatch::Kernel;
+use apex_scales::Axis;
 use apex_store::Store;
 use apex_types::{CoreId, ProcessId};
 use itoa::Buffer;

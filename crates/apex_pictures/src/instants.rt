@@ -1,73 +1,17 @@
 //! The instants of a trace: where the moment after an entry stands on its axis.
-ghost use Rattle.std.specs.Prelude.{◌≡◌, ◌+◌, ◌<◌, ◌≤◌, ◌++◌, Some};
+ghost use Rattle.std.specs.Prelude.{◌≡◌, ◌+◌, ◌<◌, ◌≤◌, ◌++◌};
 ghost use Rattle.arrayvec.specs.ArrayVec.{array_vec_len};
 ghost use Rattle.apex_types.specs.Limits.{latest};
 ghost use Rattle.apex_types.specs.declared.limits.TheConstants.{MOST_ENTRIES};
-ghost use Rattle.apex_pictures.specs.Instants.{fraction_text, next_instant, opening_instant, tick_length, time_at, time_text};
-ghost use Rattle.apex_pictures.specs.declared.instants.TheConstants.{LEAST_TICK, LONGEST_TICK, TIME_ROOM};
+ghost use Rattle.apex_pictures.specs.Instants.{fraction_text, next_instant, opening_instant, time_at, time_text};
+ghost use Rattle.apex_pictures.specs.declared.instants.TheConstants.{TIME_ROOM};
 
 use crate::pieces::{DIGITS, add_digit, add_number, add_text};
+use apex_scales::TickLength;
 use arrayvec::ArrayVec;
-use std::marker::Model;
 
 /// The most bytes of the text of a time: its microseconds, a point and three digits.
 pub(crate) const TIME_ROOM: usize = DIGITS + 4;
-
-/// The least length of a tick, in microseconds: a shorter one has no room for all moments.
-pub const LEAST_TICK: u32 = 100;
-
-/// The greatest length of a tick, in microseconds.
-pub const LONGEST_TICK: u32 = 100_000;
-
-/// The length of a tick on the axis of a trace.
-#[derive(Clone, Copy)]
-pub struct TickLength {
-    /// `LEAST_TICK` to `LONGEST_TICK`.
-    microseconds: u32,
-}
-
-impl Model for TickLength {
-    ghost use Rattle.std.specs.Prelude.{◌≤◌, ℕ};
-    ghost use Rattle.apex_pictures.specs.declared.instants.TheConstants.{LEAST_TICK, LONGEST_TICK};
-
-    ghost Value = { ℕ };
-
-    ghost view = { λ t. t.microseconds };
-
-    ghost invariant = { λ t. (LEAST_TICK ≤ t.microseconds) × (t.microseconds ≤ LONGEST_TICK) };
-
-    ghost inverse = { λ n. record { microseconds = n } };
-}
-
-impl TickLength {
-    /// The length of this many microseconds, if it is from `LEAST_TICK` to `LONGEST_TICK`.
-    pub fn new(microseconds: u32) -> Option<TickLength>
-        ensures { result ≡ tick_length (Some microseconds) }
-    {
-        if (LEAST_TICK..=LONGEST_TICK).contains(&microseconds) {
-            Some(TickLength { microseconds })
-        } else {
-            None
-        }
-    }
-
-    /// A millisecond.
-    pub fn usual() -> TickLength
-        ensures { result ≡ 1000 }
-    {
-        TickLength {
-            microseconds: 1_000,
-        }
-    }
-
-    /// The length in microseconds, `LEAST_TICK` to `LONGEST_TICK`.
-    pub fn microseconds(self) -> u32
-        ensures value { result ≡ self }
-        ensures range { (LEAST_TICK ≤ result) × (result ≤ LONGEST_TICK) }
-    {
-        self.microseconds
-    }
-}
 
 /// The instant of a moment: its time, and its place among the moments of that time.
 #[derive(Clone, Copy)]

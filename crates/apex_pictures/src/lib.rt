@@ -30,12 +30,10 @@ mod trace;
 mod tracks;
 mod words;
 
-pub use axes::Axis;
 pub use counts::Counts;
 pub use drawing::{DrawFault, draw};
 pub use excerpts::{Excerpt, Extent, MOST_COLUMNS, Side};
 pub use frames::Frame;
-pub use instants::{LEAST_TICK, LONGEST_TICK, TickLength};
 pub use laws::{columns_are_apart, columns_say_entries, moments_are_in_order, texts_are_read_back};
 pub use marks::Mark;
 pub use moments::{Cell, Moment};

@@ -1,7 +1,7 @@
 //! The styles in which a history is drawn.
 
 use crate::frames::Frame;
-use crate::instants::TickLength;
+use apex_scales::TickLength;
 
 /// A style in which a history is drawn.
 #[derive(Drop)]

@@ -14,7 +14,8 @@ use Rattle.apex_machine.specs.Situations.{deed}
 use Rattle.apex_pace.specs.Pace.{Paced}
 use Rattle.apex_search.specs.Answers.{IsShortestSchedule, LeadsToFact, schedule_of}
 use Rattle.apex_search.specs.Census.{AreFindings, EndSays, IsCensus, IsFinding, IsOneOf, IsSearchOf, alone, asking, facts_of, makes, without}
-use Rattle.apex_search.specs.Facts.{Shown, has_fact, has_one, is_code, is_fact, shown_of}
+use Rattle.apex_questions.specs.Facts.{is_code, is_fact}
+use Rattle.apex_search.specs.Facts.{Shown, has_fact, has_one, shown_of}
 use Rattle.apex_forms.specs.Restored.{paced_from}
 use Rattle.apex_search.specs.Steps.{Searched, choices_of, step_by}
 use Rattle.apex_choices.specs.Choices.{event_of}
@@ -24,7 +25,7 @@ use Rattle.apex_search.specs.declared.census.Census.{Census}
 use Rattle.apex_search.specs.declared.census.End.{End}
 use Rattle.apex_search.specs.declared.census.End.TheVariants.{Closed, Full}
 use Rattle.apex_search.specs.declared.census.Finding.{Finding}
-use Rattle.apex_search.specs.declared.facts.Fact.TheVariants.{Missed, HardMissed, TimedOut, Lost, Ended, Refused, Response, Standstill}
+use Rattle.apex_questions.specs.declared.Fact.TheVariants.{Missed, HardMissed, TimedOut, Lost, Ended, Refused, Response, Standstill}
 use Rattle.apex_search.specs.declared.systems.Workplace.{Workplace}
 use Rattle.apex_types.specs.declared.entries.ReturnCode.TheVariants as codes
 

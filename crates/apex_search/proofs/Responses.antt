@@ -22,7 +22,7 @@ use Rattle.apex_forms.specs.Forms.{canonical_paced}
 use Rattle.apex_search.specs.Steps.{Searched}
 use Rattle.apex_search.specs.Terms.{Call, Caller, Event, Notice, Question, Record, Reply}
 use Rattle.apex_search.specs.Worst.{AllBelow, AllBelowWithin, EndsJob, IsFormAfter, IsJobOf, IsOverrun, IsSlower, IsSlowest, LeadsToResponse, above, last_job, responding}
-use Rattle.apex_search.specs.declared.facts.Fact.TheVariants.{Response}
+use Rattle.apex_questions.specs.declared.Fact.TheVariants.{Response}
 use Rattle.apex_search.specs.declared.systems.Workplace.{Workplace}
 use Rattle.apex_search.specs.declared.worst.Job.{Job}
 use Rattle.apex_search.specs.declared.worst.Slowest.{Slowest}

@@ -17,7 +17,7 @@ use Rattle.apex_alike.specs.AlikeSteps.{AreAlikeDeeds, later_reply}
 use Rattle.apex_alike.proofs.Chains.{unmoved}
 use Rattle.apex_alike.proofs.Choices.{same_chosen, same_next}
 use Rattle.apex_search.specs.Facts.{has_chosen, has_fact, has_one, has_some, has_started, is_age, is_caller_aged, is_released_for, is_started, shown, some_passes, stands_still}
-use Rattle.apex_search.specs.declared.facts.Fact.TheVariants.{Missed, HardMissed, TimedOut, Lost, Ended, Refused, Response, Standstill}
+use Rattle.apex_questions.specs.declared.Fact.TheVariants.{Missed, HardMissed, TimedOut, Lost, Ended, Refused, Response, Standstill}
 use Rattle.apex_search.specs.Terms.{Call, Caller, Fact, Mode, Notice, Question, Record, Reply}
 
 -- some pass the one test if some pass the other

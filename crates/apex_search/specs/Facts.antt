@@ -1,5 +1,5 @@
--- The facts of an entry for which a search looks.
-use Rattle.std.specs.Prelude.{ℕ, zero, suc, ◌+◌, ◌-◌, ◌==◌, ◌&&◌, ◌||◌, Bool, true, false, not, nat_le, min, List, [], ◌∷◌, length, Option, None, Some, is_none, is_some}
+-- The entries that have a fact for which a search looks.
+use Rattle.std.specs.Prelude.{ℕ, zero, suc, ◌+◌, ◌-◌, ◌==◌, ◌&&◌, ◌||◌, Bool, true, false, not, nat_le, min, List, length, Option, None, Some, is_none, is_some}
 use Rattle.std.specs.List.{list_any}
 use Rattle.std.specs.Str.{bytes_eq}
 use Rattle.apex_calls.specs.Catalogue.{row_of}
@@ -9,7 +9,8 @@ use Rattle.apex_machine.specs.processes.Dues.{next_instant}
 use Rattle.apex_machine.specs.processes.Periods.{awaits_first}
 use Rattle.apex_machine.specs.processes.Roster.{Roster, record_at}
 use Rattle.apex_machine.specs.processes.Running.{chosen}
-use Rattle.apex_search.specs.declared.facts.Fact.TheVariants.{Missed, HardMissed, TimedOut, Lost, Ended, Refused, Response, Standstill}
+use Rattle.apex_questions.specs.Facts.{is_code}
+use Rattle.apex_questions.specs.declared.Fact.TheVariants.{Missed, HardMissed, TimedOut, Lost, Ended, Refused, Response, Standstill}
 use Rattle.apex_search.specs.Terms.{Call, Caller, DeadlineType, Fact, Notice, Question, Record, Reply, ReturnCode, Service}
 use Rattle.apex_types.specs.Modes.{is_normal}
 use Rattle.apex_types.specs.declared.calls.Call.TheVariants.{Time}
@@ -40,41 +41,6 @@ shown caller call reply notices roster = record {
 abbrev pub shown_of : Deed → Shown
 shown_of deed =
     shown deed.caller deed.call deed.outcome.reply deed.outcome.notices deed.outcome.roster
-
--- the two codes are the same
-abbrev pub is_code : ReturnCode → ReturnCode → Bool
-is_code codes.NoError codes.NoError = true
-is_code codes.NoAction codes.NoAction = true
-is_code codes.NotAvailable codes.NotAvailable = true
-is_code codes.InvalidParam codes.InvalidParam = true
-is_code codes.InvalidConfig codes.InvalidConfig = true
-is_code codes.InvalidMode codes.InvalidMode = true
-is_code codes.TimedOut codes.TimedOut = true
-is_code _ _ = false
-
--- the two facts are the same
-abbrev pub is_fact : Fact → Fact → Bool
-is_fact Missed Missed = true
-is_fact HardMissed HardMissed = true
-is_fact TimedOut TimedOut = true
-is_fact Lost Lost = true
-is_fact Ended Ended = true
-is_fact (Refused one) (Refused other) = is_code one other
-is_fact (Response one) (Response other) = one == other
-is_fact Standstill Standstill = true
-is_fact _ _ = false
-
--- each fact that takes no number, and each code with which services refuse a call
-abbrev pub all_facts : List Fact
-all_facts =
-    Missed ∷ HardMissed ∷ TimedOut ∷ Lost ∷ Ended ∷ Standstill ∷ Refused codes.NoAction
-    ∷ Refused codes.NotAvailable ∷ Refused codes.InvalidParam ∷ Refused codes.InvalidConfig
-    ∷ Refused codes.InvalidMode ∷ []
-
--- the set has no fact
-abbrev pub has_none : List Fact → Bool
-has_none [] = true
-has_none (fact ∷ facts) = false
 
 -- the process that is asked for, if one is, is p
 abbrev pub is_any_or : Option ℕ → ℕ → Bool

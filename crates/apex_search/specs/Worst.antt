@@ -15,7 +15,7 @@ use Rattle.apex_search.specs.Laws.{StandsFor}
 use Rattle.apex_forms.specs.Formed.{IsFormed}
 use Rattle.apex_search.specs.Steps.{Searched}
 use Rattle.apex_search.specs.Terms.{Event}
-use Rattle.apex_search.specs.declared.facts.Fact.TheVariants.{Response}
+use Rattle.apex_questions.specs.declared.Fact.TheVariants.{Response}
 use Rattle.apex_search.specs.declared.systems.Workplace.{Workplace}
 use Rattle.apex_search.specs.declared.worst.Job.{Job}
 use Rattle.apex_search.specs.declared.worst.Round.{Round}

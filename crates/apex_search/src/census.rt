@@ -5,12 +5,12 @@ ghost use Rattle.apex_search.specs.Answers.{IsShortestSchedule, SaysOfSchedules}
 ghost use Rattle.apex_search.specs.Census.{FoundHits, IsCensus, IsOneOf, IsSearchOf, alone, asking, makes, without};
 ghost use Rattle.apex_search.specs.Steps.{search_start};
 
-use crate::facts::{Fact, Facts};
 use crate::laws::forms_stand_for_situations;
 use crate::systems::{TableSystem, Workplace};
 use apex_explore::{Answer, Search, Watch, is_hit};
 use apex_forms::{same_forms_have_the_same_words, words_are_exact};
 use apex_jobs::Jobs;
+use apex_questions::{Fact, Facts};
 use std::alloc::{AllocError, Global};
 use std::marker::Sync;
 use std::thread::Threads;

@@ -3,7 +3,6 @@
 #![tactic(auto)]
 
 mod census;
-mod facts;
 mod laws;
 mod questions;
 mod steps;
@@ -11,7 +10,6 @@ mod systems;
 mod worst;
 
 pub use census::{Census, End, Finding};
-pub use facts::{Fact, Facts, MOST_FACTS};
 pub use laws::{answers_say_of_schedules, forms_stand_for_situations};
 pub use questions::Question;
 pub use systems::{TableSystem, Workplace};

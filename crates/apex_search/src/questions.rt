@@ -4,10 +4,10 @@ ghost use Rattle.std.specs.List.{list_any};
 ghost use Rattle.apex_types.specs.declared.limits.TheConstants.{MOST_CORES};
 ghost use Rattle.apex_search.specs.Facts.{has_chosen, has_one, has_some, has_started, is_about, is_about_caller, is_age, is_answer, is_blocked, is_caller_aged, is_gone, is_hard_miss, is_lost, is_miss, is_of_any_or, is_of_service, is_periodic_wait, is_released_for, is_started, is_timeout, shown, some_passes, stands_still};
 
-use crate::facts::{Fact, Facts};
 use apex_calls::{Service, parts_of, row_of};
 use apex_dispatch::Deed;
 use apex_machine::{Record, Wait};
+use apex_questions::{Fact, Facts};
 use apex_store::Store;
 use apex_types::{
     Call, Caller, CoreId, DeadlineType, Notice, Notices, ProcessId, Reply, ReturnCode, Span,

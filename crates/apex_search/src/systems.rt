@@ -15,7 +15,6 @@ ghost use Rattle.apex_forms.specs.Formed.{form_words};
 ghost use Rattle.apex_forms.specs.Stored.{word_count};
 ghost use Rattle.apex_search.specs.Worst.{IsFormAfter, responding};
 
-use crate::facts::{Fact, Facts};
 use crate::laws::forms_stand_for_situations;
 use crate::questions::Question;
 use crate::steps::{make, step};
@@ -29,6 +28,7 @@ use apex_forms::{
 };
 use apex_jobs::Jobs;
 use apex_pace::Pace;
+use apex_questions::{Fact, Facts};
 use apex_types::{Event, Notices, ProcessId};
 use std::alloc::{AllocError, Global};
 use std::marker::{Model, Sync};

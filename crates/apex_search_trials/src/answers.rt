@@ -2,13 +2,13 @@
 
 use crate::papers::paper;
 use crate::searches::{MUTEX, SEMAPHORE, question_of, system_of};
-use apex_answers::{answer_of, fact_of, word_of};
+use apex_answers::answer_of;
 use apex_configs::Table;
 use apex_explore::NoWatch;
 use apex_history::{Counted, FailAt};
 use apex_jobs::Jobs;
 use apex_names::process_of;
-use apex_search::{Fact, Facts};
+use apex_questions::{Fact, Facts, fact_of, word_of};
 use apex_table::read_table;
 use apex_types::{Name, ProcessId, ReturnCode};
 use std::alloc::Global;

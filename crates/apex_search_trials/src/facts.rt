@@ -5,7 +5,7 @@ use crate::kernels::ran;
 use crate::searches::{question_of, schedule_of, searched, system_of};
 use apex_calls::Service;
 use apex_explore::Answer;
-use apex_search::{Fact, Facts};
+use apex_questions::{Fact, Facts};
 use apex_types::{CoreId, Event, LentEntry, MOST_TICKS, ProcessId, Reply, ReturnCode};
 use std::alloc::Global;
 use std::marker::Sync;

@@ -7,7 +7,7 @@ use apex_answers::worst_of;
 use apex_explore::NoWatch;
 use apex_history::{Counted, FailAt};
 use apex_jobs::Jobs;
-use apex_search::{Fact, Facts};
+use apex_questions::{Fact, Facts};
 use apex_types::ProcessId;
 use std::alloc::Global;
 use std::marker::Sync;

@@ -19,7 +19,7 @@ use Rattle.apex_pictures.specs.declared.Style.TheVariants as styles
 use Rattle.apex_views.specs.Departures.{Departure}
 use Rattle.apex_views.specs.Shows.{Answers, Gives, IsGivenTo, IsRunTo, IsToldBy, Outcome, ShowEnd, Shows, ShowsOutcome, cut_off, cut_short, end_before, end_of, fails, first_fault, no_memory, outcome_in, outcome_of_run, parts, ran, refused, shown, shows, stops, told, unread, unwritten, whole}
 use Rattle.apex_views.specs.Plans.{AppendsPrefixOfView, AppendsView, IsStyleOf, excerpt_at, excerpt_in, excerpt_with, fault_of_drawing}
-use Rattle.apex_views.specs.Showings.{Picture, Source, View, drawn, history, svg, trace}
+use Rattle.apex_showings.specs.Showings.{Picture, Source, View, drawn, history, svg, trace}
 use Rattle.apex_views.specs.declared.sources.Given.{Given}
 use Rattle.apex_views.specs.declared.sources.GivenRun.{GivenRun}
 use Rattle.apex_views.specs.declared.sources.GivenRun.TheVariants as run_in

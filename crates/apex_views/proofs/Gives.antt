@@ -7,10 +7,12 @@ use Rattle.apex_console.specs.declared.CliFault.TheVariants.{NoSeparator}
 use Rattle.apex_schedules.specs.Readings.{AreItemsOf}
 use Rattle.apex_schedules.specs.declared.Item.{Item}
 use Rattle.apex_views.specs.Shows.{Gives, IsBehind, fails, ill_scheduled, no_memory, stops, unparted}
-use Rattle.apex_views.specs.Faults.{IsFaultIn}
-use Rattle.apex_views.specs.Showings.{schedule_read}
-use Rattle.apex_views.specs.declared.faults.ShowFault.{ShowFault}
-use Rattle.apex_views.specs.declared.faults.ShowFault.TheVariants.{Common, Empty, NoProcess, Schedule}
+use Rattle.apex_showings.specs.Schedules.{IsFaultIn}
+use Rattle.apex_showings.specs.Showings.{schedule_read}
+use Rattle.apex_showings.specs.declared.ItemsFault.{ItemsFault}
+use Rattle.apex_showings.specs.declared.ItemsFault.TheVariants as items
+use Rattle.apex_views.specs.Faults.{fault_of_items}
+use Rattle.apex_views.specs.declared.faults.ShowFault.TheVariants.{Common}
 
 -- the answer to the items behind a table
 pub behind : (bytes table rest : List ℕ) (items : List Item) → IsParted bytes table rest → AreItemsOf rest items
@@ -28,9 +30,7 @@ module _ {left : Option (List ℕ)} {failed : ℕ} (after : ℕ) (bytes : List �
   pub gives_unparted : HasNoSeparator bytes → Gives left failed schedule_read (stops (fails (Common NoSeparator))) after
   gives_unparted none = rw counts (unparted bytes ahead none)
 
-  pub gives_bad_schedule : (table rest : List ℕ) (fault : ShowFault) → IsParted bytes table rest → IsFaultIn rest fault
-      → Gives left failed schedule_read (stops (fails fault)) after
-  gives_bad_schedule table rest (Common fault) parted is = rw (is, counts) no_memory
-  gives_bad_schedule table rest (Schedule bad) parted is = rw counts (ill_scheduled bytes table rest ahead parted is)
-  gives_bad_schedule table rest (Empty window) parted is = absurd is
-  gives_bad_schedule table rest (NoProcess name) parted is = absurd is
+  pub gives_bad_schedule : (table rest : List ℕ) (fault : ItemsFault) → IsParted bytes table rest → IsFaultIn rest fault
+      → Gives left failed schedule_read (stops (fails (fault_of_items fault))) after
+  gives_bad_schedule table rest items.Memory parted is = rw counts no_memory
+  gives_bad_schedule table rest (items.Schedule bad) parted is = rw counts (ill_scheduled bytes table rest ahead parted is)

@@ -7,8 +7,8 @@ use Rattle.apex_history.specs.Counted.{AppendsBeginning, one_more}
 use Rattle.apex_console.specs.declared.CliFault.TheVariants.{Write}
 use Rattle.apex_views.specs.Shows.{Shows}
 use Rattle.apex_views.specs.Plans.{listing_text}
-use Rattle.apex_views.specs.Showings.{listed}
-use Rattle.apex_views.specs.declared.showings.Listing.{Listing}
+use Rattle.apex_showings.specs.Showings.{listed}
+use Rattle.apex_showings.specs.declared.Listing.{Listing}
 use Rattle.apex_views.proofs.Endings.{shows_prefix, shows_whole}
 
 module _ (listing : Listing) (table : Table) (machine : Machine) {held after : Option (List ℕ)} {failed failures : ℕ} where

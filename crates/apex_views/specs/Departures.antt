@@ -16,7 +16,7 @@ use Rattle.apex_pictures.specs.declared.Side.TheVariants.{First, Last}
 use Rattle.apex_types.specs.declared.entries.Entry.{Entry}
 use Rattle.apex_types.specs.declared.entries.Event.{Event}
 use Rattle.apex_views.specs.declared.departures.Departure.{Departure as DepartureIn}
-use Rattle.apex_views.specs.declared.windows.Span.{Span}
+use Rattle.apex_showings.specs.declared.Span.{Span}
 
 -- how a departure is shown: the text of the verdict, the line that the machine expects, and the line
 -- that was given

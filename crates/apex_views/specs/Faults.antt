@@ -1,42 +1,24 @@
 -- The faults of a showing.
-use Rattle.std.specs.Prelude.{◌≡◌, ◌==◌, codes, decimal, ℕ, List, [], ◌++◌, take, if◌then◌else◌}
+use Rattle.std.specs.Prelude.{◌==◌, codes, decimal, ℕ, List, [], ◌++◌, if◌then◌else◌}
 use Rattle.apex_console.specs.declared.CliFault.TheVariants.{Memory}
-use Rattle.apex_schedules.specs.Groups.{column_behind, line_behind}
-use Rattle.apex_schedules.specs.Readings.{IsFaultOf}
-use Rattle.apex_schedules.specs.declared.Place.{Place}
-use Rattle.apex_schedules.specs.declared.ScheduleFault.{ScheduleFault}
-use Rattle.apex_schedules.specs.declared.ScheduleFault.TheVariants as schedules
 use Rattle.apex_types.specs.declared.limits.TheConstants.{MOST_ENTRIES}
 use Rattle.apex_pictures.specs.declared.Excerpt.{Excerpt}
-use Rattle.apex_views.specs.Windows.{has_time}
-use Rattle.apex_views.specs.declared.faults.BadSchedule.{BadSchedule}
-use Rattle.apex_views.specs.declared.faults.Reason.{Reason}
-use Rattle.apex_views.specs.declared.faults.Reason.TheVariants.{IllFormed, TooMany}
+use Rattle.apex_showings.specs.Windows.{has_time}
+use Rattle.apex_showings.specs.declared.BadSchedule.{BadSchedule}
+use Rattle.apex_showings.specs.declared.ItemsFault.{ItemsFault}
+use Rattle.apex_showings.specs.declared.ItemsFault.TheVariants as items
+use Rattle.apex_showings.specs.declared.Reason.{Reason}
+use Rattle.apex_showings.specs.declared.Reason.TheVariants.{IllFormed, TooMany}
 use Rattle.apex_views.specs.declared.faults.ShowFault.{ShowFault}
-use Rattle.apex_views.specs.declared.faults.ShowFault.TheVariants.{Common, Empty, NoProcess, Schedule}
-use Rattle.apex_views.specs.declared.windows.Bound.{Bound}
-use Rattle.apex_views.specs.declared.windows.Bound.TheVariants as bound
-use Rattle.apex_views.specs.declared.windows.EmptyWindow.{EmptyWindow}
+use Rattle.apex_views.specs.declared.faults.ShowFault.TheVariants.{Common, Schedule as BadText}
+use Rattle.apex_showings.specs.declared.Bound.{Bound}
+use Rattle.apex_showings.specs.declared.Bound.TheVariants as bound
+use Rattle.apex_showings.specs.declared.EmptyWindow.{EmptyWindow}
 
--- the fault of a schedule's text for this reason, at a place
-abbrev pub fault_at : Reason → Place → ScheduleFault
-fault_at IllFormed place = schedules.IllFormed place
-fault_at TooMany place = schedules.TooMany place
-
--- a schedule's text has this fault: its place is that of the text's fault
-pub record IsBadIn (text : List ℕ) (bad : BadSchedule) : Type 0 where
-  pub place : Place
-  pub has : IsFaultOf text (fault_at bad.reason place)
-  pub item : bad.item ≡ place.item
-  pub line : bad.line ≡ line_behind (take place.byte text)
-  pub column : bad.column ≡ column_behind (take place.byte text)
-
--- memory was refused, or a schedule's text has this fault
-abbrev pub IsFaultIn : List ℕ → ShowFault → Type 0
-IsFaultIn text (Common fault) = fault ≡ Memory
-IsFaultIn text (Schedule bad) = IsBadIn text bad
-IsFaultIn text (Empty window) = ⊥
-IsFaultIn text (NoProcess name) = ⊥
+-- the fault of a showing, by that of a schedule's text
+abbrev pub fault_of_items : ItemsFault → ShowFault
+fault_of_items items.Memory = Common Memory
+fault_of_items (items.Schedule bad) = BadText bad
 
 abbrev pub too_many_text : List ℕ
 too_many_text = codes "more than " ++ decimal MOST_ENTRIES ++ codes " items"

@@ -1,6 +1,4 @@
-pub mod Windows
 pub mod Faults
-pub mod Showings
 pub mod Rows
 pub mod Departures
 pub mod Plans

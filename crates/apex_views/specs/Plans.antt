@@ -27,7 +27,7 @@ use Rattle.apex_pictures.specs.Axes.{behind_of, last_column, places_of}
 use Rattle.apex_pictures.specs.Excerpts.{excerpt_of, first_drawn, last_drawn}
 use Rattle.apex_pictures.specs.Pictures.{picture_text}
 use Rattle.apex_pictures.specs.Rows.{HasRows}
-use Rattle.apex_pictures.specs.declared.Axis.{Axis}
+use Rattle.apex_scales.specs.declared.Axis.{Axis}
 use Rattle.apex_pictures.specs.declared.Excerpt.{Excerpt}
 use Rattle.apex_pictures.specs.declared.Extent.{Extent}
 use Rattle.apex_pictures.specs.declared.Frame.{Frame}
@@ -35,12 +35,12 @@ use Rattle.apex_pictures.specs.declared.Style.{Style}
 use Rattle.apex_pictures.specs.declared.Style.TheVariants as style
 use Rattle.apex_views.specs.Departures.{Departure, Marks, departure_behind, extent_of}
 use Rattle.apex_views.specs.Rows.{rows_for}
-use Rattle.apex_views.specs.Showings.{Chart, Picture, View, drawn, listed, svg, trace}
-use Rattle.apex_views.specs.Windows.{span_in}
+use Rattle.apex_showings.specs.Showings.{Chart, Picture, View, drawn, listed, svg, trace}
+use Rattle.apex_showings.specs.Windows.{span_in}
 use Rattle.apex_views.specs.declared.plans.Plan.{Plan}
-use Rattle.apex_views.specs.declared.showings.Listing.{Listing}
-use Rattle.apex_views.specs.declared.showings.Listing.TheVariants as lists
-use Rattle.apex_views.specs.declared.windows.Span.{Span}
+use Rattle.apex_showings.specs.declared.Listing.{Listing}
+use Rattle.apex_showings.specs.declared.Listing.TheVariants as lists
+use Rattle.apex_showings.specs.declared.Span.{Span}
 
 -- the events run like those of the items, and this fault is reported with the picture
 pub record IsRunOf (items : List Item) (table : tables.Table) (events : List Event)

@@ -18,15 +18,15 @@ use Rattle.apex_console.specs.declared.CliFault.TheVariants.{Memory, NoSeparator
 use Rattle.apex_schedules.specs.Readings.{AreItemsOf}
 use Rattle.apex_schedules.specs.declared.Item.{Item}
 use Rattle.apex_views.specs.Departures.{Departure, DepartsBehind, departure_at, departure_said}
-use Rattle.apex_views.specs.Faults.{IsBadIn}
+use Rattle.apex_showings.specs.Schedules.{IsBadIn}
 use Rattle.apex_views.specs.Paced.{paced_answer}
 use Rattle.apex_pictures.specs.declared.Excerpt.{Excerpt}
 use Rattle.apex_views.specs.Plans.{AppendsPrefixOfView, AppendsView, IsPlanFor, excerpt_in, machine_of}
 use Rattle.apex_views.specs.Rows.{rows_for}
-use Rattle.apex_views.specs.Showings.{Chart, Picture, Showing, Source, View, drawn, history, listed, paced, schedule, schedule_read, svg, trace}
-use Rattle.apex_views.specs.Windows.{empty_in, span_in}
+use Rattle.apex_showings.specs.Showings.{Chart, Picture, Showing, Source, View, drawn, history, listed, paced, schedule, schedule_read, svg, trace}
+use Rattle.apex_showings.specs.Windows.{empty_in, span_in}
 use Rattle.apex_views.specs.declared.departures.Departure.{Departure as DepartureIn}
-use Rattle.apex_views.specs.declared.faults.BadSchedule.{BadSchedule}
+use Rattle.apex_showings.specs.declared.BadSchedule.{BadSchedule}
 use Rattle.apex_views.specs.declared.faults.ShowFault.{ShowFault}
 use Rattle.apex_views.specs.declared.faults.ShowFault.TheVariants.{Common, Empty, NoProcess, Schedule as BadText}
 use Rattle.apex_views.specs.declared.plans.Plan.{Plan}
@@ -35,7 +35,7 @@ use Rattle.apex_views.specs.declared.showing.Shown.TheVariants as ending
 use Rattle.apex_views.specs.declared.sources.Given.{Given}
 use Rattle.apex_views.specs.declared.sources.GivenRun.{GivenRun}
 use Rattle.apex_views.specs.declared.sources.GivenRun.TheVariants as run_in
-use Rattle.apex_views.specs.declared.windows.Window.{Window}
+use Rattle.apex_showings.specs.declared.Window.{Window}
 
 -- the end of a showing
 pub data ShowEnd : Type 0 where

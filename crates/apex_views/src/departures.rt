@@ -4,13 +4,13 @@ ghost use Rattle.apex_machine.specs.Events.{IsWithin};
 ghost use Rattle.apex_machine.specs.Machine.{events_of, opening, run};
 ghost use Rattle.apex_views.specs.Departures.{Marks, departure_behind, departure_said, extent_of};
 
-use crate::windows::Span;
 use apex_console::booted;
 use apex_departures::ShownLines;
 use apex_dispatch::{Kernel, events_in};
 use apex_history::Lines;
 use apex_pictures::{Extent, Frame, Mark, Side};
 use apex_process::QueueStore;
+use apex_showings::Span;
 use apex_store::Store;
 use apex_types::Event;
 use std::alloc::{AllocError, Global};

@@ -1,51 +1,27 @@
 //! The faults with which a showing ends, and their lines.
-ghost use Rattle.std.specs.Prelude.{◌≡◌, ◌+◌, ◌≤◌, ◌++◌, IfErr, IfOk, decimal};
+ghost use Rattle.std.specs.Prelude.{◌≡◌, ◌+◌, ◌≤◌, ◌++◌, decimal};
 ghost use Rattle.arrayvec.specs.ArrayString.{array_string_len};
 ghost use Rattle.apex_console.specs.Faults.{fault_in, fault_of_read};
 ghost use Rattle.apex_console.specs.declared.CliFault.TheVariants.{Memory};
-ghost use Rattle.apex_schedules.specs.Readings.{AreItemsOf, IsFaultOf};
-ghost use Rattle.apex_views.specs.Faults.{IsBadIn, IsFaultIn, bound_text, end_part, entries_text, excerpt_line, fault_at, line_part, reason_text, schedule_line, time_text, too_many_text, window_line};
+ghost use Rattle.apex_views.specs.Faults.{bound_text, end_part, entries_text, excerpt_line, fault_of_items, line_part, reason_text, schedule_line, time_text, too_many_text, window_line};
 ghost use Rattle.apex_views.specs.Shows.{first_fault};
 ghost use Rattle.apex_views.specs.declared.faults.ShowFault.TheVariants.{Common};
 ghost use Rattle.apex_views.specs.declared.faults.TheConstants.{LINE_ROOM};
 
-use crate::windows::{Bound, EmptyWindow};
 use apex_console::CliFault;
 use apex_history::ReadFault;
 use apex_pictures::Excerpt;
-use apex_schedules::{Item, Place, ScheduleFault, read_grouped};
+use apex_showings::{BadSchedule, Bound, EmptyWindow, ItemsFault, Reason};
 use apex_types::{MOST_ENTRIES, Name};
 use arrayvec::ArrayString;
 use itoa::Buffer;
-use std::alloc::{AllocError, Global};
+use std::alloc::AllocError;
 
 /// Room for the bytes of a line that reports a fault.
 const LINE_ROOM: usize = 160;
 
 /// A line that reports a fault.
 pub type Line = ArrayString<LINE_ROOM>;
-
-/// The reason why a text is no schedule.
-#[derive(Clone, Copy, Debug, PartialEq, Eq)]
-pub enum Reason {
-    /// A word is neither an item nor a bracket, its bracket closes no group, or the text ends in a
-    /// group.
-    IllFormed,
-    /// The items are more than a history has room for, each group written out as often as it comes.
-    TooMany,
-}
-
-/// A fault of a schedule's text, with its place.
-#[derive(Clone, Copy, Debug, PartialEq, Eq)]
-pub struct BadSchedule {
-    pub reason: Reason,
-    /// The number of the item, from 1.
-    pub item: usize,
-    /// The line of the place, from 1.
-    pub line: usize,
-    /// The column of the place, from 1.
-    pub column: usize,
-}
 
 /// The reason why a run is not shown, or not to its end.
 #[derive(Clone, Copy)]
@@ -84,6 +60,17 @@ impl From<ReadFault> for ShowFault {
     }
 }
 
+impl From<ItemsFault> for ShowFault {
+    ghost from_gives = { λ error fault. fault ≡ fault_of_items error };
+
+    fn from(error: ItemsFault) -> ShowFault {
+        match error {
+            ItemsFault::Memory => ShowFault::Common(CliFault::Memory),
+            ItemsFault::Schedule(bad) => ShowFault::Schedule(bad),
+        }
+    }
+}
+
 /// The fault of a showing, or else the one that is reported besides.
 pub(crate) fn first_fault(
     shown: Result<(), CliFault>,
@@ -94,45 +81,6 @@ pub(crate) fn first_fault(
     match (shown, reported) {
         (Ok(()), Some(fault)) => Err(fault),
         (shown, _) => shown,
-    }
-}
-
-/// The fault of a schedule's text for this reason, at a place.
-fn bad_at(reason: Reason, place: Place, text: &[u8]) -> BadSchedule
-    requires { IsFaultOf text.now (fault_at reason place) }
-    ensures { IsBadIn text.now result }
-{
-    let (line, column) = place.line_and_column(text);
-    BadSchedule {
-        reason,
-        item: place.item,
-        line,
-        column,
-    }
-}
-
-/// The fault of a showing, by that of a schedule's text.
-fn fault_of_schedule(fault: ScheduleFault, text: &[u8]) -> ShowFault
-    requires { IsFaultOf text.now fault }
-    ensures { IsFaultIn text.now result }
-{
-    match fault {
-        ScheduleFault::IllFormed(place) => {
-            ShowFault::Schedule(bad_at(Reason::IllFormed, place, text))
-        }
-        ScheduleFault::TooMany(place) => ShowFault::Schedule(bad_at(Reason::TooMany, place, text)),
-        ScheduleFault::Memory => ShowFault::Common(CliFault::Memory),
-    }
-}
-
-/// The items of a schedule's text, which may have groups.
-pub fn read_items(alloc: Global, text: &[u8]) -> Result<Vec<Item>, ShowFault>
-    ensures ok { IfOk result (λ items. AreItemsOf text.now items.items) }
-    ensures err { IfErr result (IsFaultIn text.now) }
-{
-    match read_grouped(alloc, text) {
-        Ok(items) => Ok(items),
-        Err(fault) => Err(fault_of_schedule(fault, text)),
     }
 }
 

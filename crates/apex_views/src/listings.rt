@@ -10,11 +10,10 @@ ghost use Rattle.apex_schedules.specs.Printing.{schedule_text};
 ghost use Rattle.apex_types.specs.declared.entries.Entry.{Entry};
 ghost use Rattle.apex_views.specs.Shows.{Shows, first_fault};
 ghost use Rattle.apex_views.specs.Plans.{report_in};
-ghost use Rattle.apex_views.specs.Showings.{listed};
-ghost use Rattle.apex_views.specs.declared.showings.Listing.TheVariants.{Lines, Status, Report as ReportIn, Schedule};
+ghost use Rattle.apex_showings.specs.Showings.{listed};
+ghost use Rattle.apex_showings.specs.declared.Listing.TheVariants.{Lines, Status, Report as ReportIn, Schedule};
 
 use crate::faults::first_fault;
-use crate::showings::Listing;
 use apex_configs::Table;
 use apex_console::{CliFault, Run};
 use apex_dispatch::{Kernel, events_in};
@@ -23,6 +22,7 @@ use apex_objects::{Form, ObjectLines, print_history_objects, print_listing_objec
 use apex_process::QueueStore;
 use apex_report::{Report, print_report, print_report_json, report_of};
 use apex_schedules::print_schedule;
+use apex_showings::Listing;
 use apex_types::Event;
 use std::alloc::Global;
 use std::io;

@@ -6,17 +6,17 @@ ghost use Rattle.apex_console.specs.Streams.{ports_of};
 ghost use Rattle.apex_console.specs.declared.CliFault.{CliFault as CliFaultOf};
 ghost use Rattle.apex_views.specs.Plans.{IsStyleOf, excerpt_in, machine_of};
 ghost use Rattle.apex_views.specs.Departures.{departure_said};
-ghost use Rattle.apex_views.specs.Showings.{Picture as PictureAsked, View as ViewAsked, drawn, showing_said};
+ghost use Rattle.apex_showings.specs.Showings.{Picture as PictureAsked, View as ViewAsked, drawn, showing_said};
 ghost use Rattle.apex_views.specs.Shows.{IsRunFor, ShowEnds, Shows, ShowsOutcome, end_in, end_of, end_of_part, first_fault, outcome_of_run};
 
 use crate::departures::Departure;
 use crate::faults::ShowFault;
 use crate::listings::list;
 use crate::plans::{Plan, draw_plan, show};
-use crate::showings::Showing;
 use crate::sources::{Given, GivenRun, given_by};
 use apex_history::{Counted, Lines, Sink, Source};
 use apex_pictures::Excerpt;
+use apex_showings::Showing;
 use std::alloc::Global;
 
 /// The end of a showing that meets no fault.

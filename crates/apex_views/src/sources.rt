@@ -11,16 +11,14 @@ ghost use Rattle.apex_views.specs.Shows.{Gives, IsGivenFor, IsGivenTo, IsRunFor,
 ghost use Rattle.apex_views.specs.declared.faults.ShowFault.TheVariants.{Common};
 ghost use Rattle.apex_views.specs.Plans.{IsStyleOf};
 ghost use Rattle.apex_views.specs.Rows.{rows_for};
-ghost use Rattle.apex_views.specs.Showings.{Picture as PictureAsked, chart_said, drawn, history, paced, picture_said, schedule, schedule_read, source_said, svg, view_said};
+ghost use Rattle.apex_showings.specs.Showings.{Picture as PictureAsked, chart_said, drawn, history, paced, picture_said, schedule, schedule_read, source_said, svg, view_said};
 
 use crate::departures::{Departure, kernel_before};
-use crate::faults::{ShowFault, read_items};
+use crate::faults::ShowFault;
 use crate::parts::parted;
 use crate::plans::{Plan, frame_for, plan_in, trace_plan};
 use crate::rows::{Chosen, rows_for};
 use crate::runs::run_at_pace;
-use crate::showings::{Chart, Listing, Picture, RunSource, Showing, View};
-use crate::windows::Window;
 use apex_check::{Followed, Verdict, follow, verdict_text};
 use apex_console::{CliFault, Run, run_of, table_for};
 use apex_departures::{fault_in_memory, shown_lines};
@@ -30,6 +28,7 @@ use apex_pace::Pace;
 use apex_pictures::Style;
 use apex_process::QueueStore;
 use apex_schedules::Item;
+use apex_showings::{Chart, Listing, Picture, RunSource, Showing, View, Window, read_items};
 use apex_types::{Name, ProcessId};
 use std::alloc::{AllocError, Global};
 

@@ -2,7 +2,7 @@
 use Rattle.std.proofs.Common.{subst, sym}
 use Rattle.std.proofs.lemmas.Result.{err_from_is_err_and}
 use Rattle.apex_lab.specs.Searches.{IsRefusalOf, asked_name}
-use Rattle.apex_lab.specs.declared.questions.Sought.{Sought}
+use Rattle.apex_questions.specs.declared.Sought.{Sought}
 use Rattle.apex_lab.proofs.SearchLemmas.{fact_says, facts_say, response_says}
 use Rattle.apex_lab.proofs.searching.answer_for.Goals as goal
 

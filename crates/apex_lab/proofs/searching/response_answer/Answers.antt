@@ -2,7 +2,7 @@
 use Rattle.std.proofs.Common.{rules, ◌≡◌, ◌∙◌, ap, subst, sym, None, Ok, Some}
 use Rattle.std.proofs.lemmas.Result.{err_from_is_err_and}
 use Rattle.apex_answers.specs.Worst.{IsWorstAnswer}
-use Rattle.apex_search.specs.Facts.{all_facts}
+use Rattle.apex_questions.specs.Facts.{all_facts}
 use Rattle.apex_search.specs.Steps.{Searched}
 use Rattle.apex_lab.specs.Searches.{system_about}
 use Rattle.apex_lab.proofs.SearchLemmas.{missing_process, same_system, text_fault}

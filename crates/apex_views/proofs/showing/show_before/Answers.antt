@@ -4,7 +4,7 @@ use Rattle.std.proofs.KnownBytes.{Keeps-refl}
 use Rattle.std.proofs.lemmas.Result.{err_from_is_err_and}
 use Rattle.apex_views.specs.Departures.{departure_said}
 use Rattle.apex_views.specs.Plans.{machine_of}
-use Rattle.apex_views.specs.Showings.{listed}
+use Rattle.apex_showings.specs.Showings.{listed}
 use Rattle.apex_views.specs.Shows.{IsEmptyIn, IsLackingIn, IsPlanIn, lacking, unshown}
 use Rattle.apex_views.proofs.Endings.{ends_before}
 use Rattle.apex_views.proofs.showing.show_before.Goals as goal

@@ -4,7 +4,7 @@ use Rattle.std.proofs.lemmas.Result.{err_from_is_err_and}
 use Rattle.apex_console.specs.declared.CliFault.{CliFault}
 use Rattle.apex_views.specs.Plans.{excerpt_in, machine_of}
 use Rattle.apex_views.specs.Shows.{end_of, end_of_part}
-use Rattle.apex_views.specs.Showings.{drawn}
+use Rattle.apex_showings.specs.Showings.{drawn}
 use Rattle.apex_views.proofs.Endings.{excerpt_is}
 use Rattle.apex_views.proofs.showing.show_plan.Goals as goal
 

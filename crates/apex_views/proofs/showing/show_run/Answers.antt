@@ -3,7 +3,7 @@ use Rattle.std.proofs.Common.{None, Some}
 use Rattle.std.proofs.KnownBytes.{Keeps-refl}
 use Rattle.std.proofs.lemmas.Result.{err_from_is_err_and}
 use Rattle.apex_views.specs.Shows.{outcome_of_run, stopped}
-use Rattle.apex_views.specs.Showings.{showing_said}
+use Rattle.apex_showings.specs.Showings.{showing_said}
 use Rattle.apex_views.proofs.showing.show_run.Goals as goal
 
 pub show_whole-requires : goal.show_whole-requires

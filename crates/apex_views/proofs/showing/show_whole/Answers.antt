@@ -4,7 +4,7 @@ use Rattle.std.proofs.KnownBytes.{Keeps-refl}
 use Rattle.std.proofs.lemmas.Result.{err_from_is_err_and}
 use Rattle.apex_console.specs.declared.CliFault.{CliFault}
 use Rattle.apex_views.specs.Plans.{machine_of}
-use Rattle.apex_views.specs.Showings.{drawn, listed}
+use Rattle.apex_showings.specs.Showings.{drawn, listed}
 use Rattle.apex_views.specs.Shows.{IsEmptyIn, IsLackingIn, IsPlanIn, empty, end_of, lacking}
 use Rattle.apex_views.proofs.Endings.{ends_shown}
 use Rattle.apex_views.proofs.showing.show_whole.Goals as goal

@@ -2,7 +2,7 @@
 use Rattle.std.proofs.Common.{refl}
 use Rattle.std.specs.Prelude.{option_map}
 use Rattle.apex_views.specs.Departures.{departure_said}
-use Rattle.apex_views.specs.Showings.{chart_said, svg}
+use Rattle.apex_showings.specs.Showings.{chart_said, svg}
 use Rattle.apex_views.proofs.sources.charted.Goals as goal
 
 pub returns-in-Some-clause-view : goal.returns-in-Some-clause-view

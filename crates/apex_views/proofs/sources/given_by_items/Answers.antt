@@ -2,8 +2,8 @@
 use Rattle.std.proofs.Common.{◌≡◌, inl, refl}
 use Rattle.std.proofs.lemmas.Result.{err_from_is_err_and}
 use Rattle.apex_views.proofs.Listed.{list_answer}
-use Rattle.apex_views.specs.Showings.{trace}
-use Rattle.apex_views.specs.declared.showings.Picture.TheVariants.{Trace}
+use Rattle.apex_showings.specs.Showings.{trace}
+use Rattle.apex_showings.specs.declared.Picture.TheVariants.{Trace}
 use Rattle.apex_views.proofs.sources.given_by_items.Goals as goal
 
 pub returns-in-Picture-Trace-clause-ok : goal.returns-in-Picture-Trace-clause-ok

@@ -2,7 +2,7 @@
 use Rattle.std.proofs.Common.{refl}
 use Rattle.std.specs.Prelude.{option_map}
 use Rattle.apex_views.specs.Departures.{departure_said}
-use Rattle.apex_views.specs.Showings.{trace}
+use Rattle.apex_showings.specs.Showings.{trace}
 use Rattle.apex_views.proofs.sources.pictured.Goals as goal
 
 pub returns-in-Trace-clause-view : goal.returns-in-Trace-clause-view

@@ -3,7 +3,7 @@ use Rattle.std.proofs.Common.{◌≡◌, ◌∙◌, ◌<◌, List, length, Some,
 use Rattle.std.proofs.lemmas.Option.{slice_get-get_or}
 use Rattle.std.specs.List.{slice_get}
 use Rattle.apex_search.specs.Terms.{Fact}
-use Rattle.apex_search.specs.declared.facts.Fact.TheVariants.{Missed}
+use Rattle.apex_questions.specs.declared.Fact.TheVariants.{Missed}
 use Rattle.apex_search.proofs.Censuses.{at_place}
 use Rattle.apex_search.proofs.Striking.{strike_ends, strike_hits, strike_more, strike_others, strike_shortest}
 use Rattle.apex_search.proofs.systems.TableSystem.strike.Goals as goal

@@ -1,0 +1,2 @@
+pub mod FaultPlaces
+pub mod Spans

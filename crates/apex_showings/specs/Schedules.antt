@@ -1,0 +1,30 @@
+-- The faults of a schedule's text.
+use Rattle.std.specs.Prelude.{◌≡◌, ℕ, List, take}
+use Rattle.apex_schedules.specs.Groups.{column_behind, line_behind}
+use Rattle.apex_schedules.specs.Readings.{IsFaultOf}
+use Rattle.apex_schedules.specs.declared.Place.{Place}
+use Rattle.apex_schedules.specs.declared.ScheduleFault.{ScheduleFault}
+use Rattle.apex_schedules.specs.declared.ScheduleFault.TheVariants as schedules
+use Rattle.apex_showings.specs.declared.schedules.BadSchedule.{BadSchedule}
+use Rattle.apex_showings.specs.declared.schedules.ItemsFault.{ItemsFault}
+use Rattle.apex_showings.specs.declared.schedules.ItemsFault.TheVariants.{Memory, Schedule}
+use Rattle.apex_showings.specs.declared.schedules.Reason.{Reason}
+use Rattle.apex_showings.specs.declared.schedules.Reason.TheVariants.{IllFormed, TooMany}
+
+-- the fault of a schedule's text for this reason, at a place
+abbrev pub fault_at : Reason → Place → ScheduleFault
+fault_at IllFormed place = schedules.IllFormed place
+fault_at TooMany place = schedules.TooMany place
+
+-- a schedule's text has this fault: its place is that of the text's fault
+pub record IsBadIn (text : List ℕ) (bad : BadSchedule) : Type 0 where
+  pub place : Place
+  pub has : IsFaultOf text (fault_at bad.reason place)
+  pub item : bad.item ≡ place.item
+  pub line : bad.line ≡ line_behind (take place.byte text)
+  pub column : bad.column ≡ column_behind (take place.byte text)
+
+-- memory was refused, or a schedule's text has this fault
+abbrev pub IsFaultIn : List ℕ → ItemsFault → Type 0
+IsFaultIn text Memory = Unit {0}
+IsFaultIn text (Schedule bad) = IsBadIn text bad
