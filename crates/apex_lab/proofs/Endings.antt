@@ -8,23 +8,19 @@ use Rattle.apex_console.specs.declared.CliFault.{CliFault}
 use Rattle.apex_console.specs.declared.CliFault.TheVariants.{Usage, Table, NoSeparator, BadLine, TooLong, HistoryFull, Memory, NoThread, Read, Write}
 use Rattle.apex_lab.specs.Ends.{fails}
 use Rattle.apex_lab.specs.Exits.{Ends, unasked, unscheduled, usage}
-use Rattle.apex_lab.specs.Faults.{common_line}
-use Rattle.apex_lab.specs.Tasks.{Asked, IsUnasked, Unasked}
-use Rattle.apex_lab.specs.declared.faults.LabFault.{LabFault}
-use Rattle.apex_lab.specs.declared.faults.LabFault.TheVariants.{Common, Empty, NoEntry, NoProcess, Schedule, StatesFull}
+use Rattle.apex_lab.specs.Faults.{common_line, fault_of_task}
+use Rattle.apex_tasks.specs.Tasks.{Asked, IsUnasked, Unasked}
+use Rattle.apex_tasks.specs.declared.TaskFault.{TaskFault}
+use Rattle.apex_tasks.specs.declared.TaskFault.TheVariants.{Common, Schedule}
 
 module _ {asked : Result Asked Unasked} {before after : Ports} where
   -- words or a schedule that ask for nothing, or no memory
-  pub ends_unasked : (fault : LabFault) → IsUnasked asked fault
+  pub ends_unasked : (fault : TaskFault) → IsUnasked asked fault
       → Keeps before.left after.left → Keeps before.held after.held
-      → NoneFails before after → Ends asked before (fails fault) after
+      → NoneFails before after → Ends asked before (fails (fault_of_task fault)) after
   ends_unasked (Common fault) (inl e) left held none_fails = rw e (unasked left held none_fails)
   ends_unasked (Common fault) (inr (e, none)) left held none_fails = rw e (usage none left held none_fails)
   ends_unasked (Schedule bad) (text, none, has) left held none_fails = unscheduled text none has left held none_fails
-  ends_unasked (NoProcess name) other left held none_fails = absurd other
-  ends_unasked (NoEntry number) other left held none_fails = absurd other
-  ends_unasked (StatesFull room) other left held none_fails = absurd other
-  ends_unasked (Empty window) other left held none_fails = absurd other
 
 -- the line that was told, by its other form
 pub told_line : {line other : List ℕ} (old new : Option (List ℕ)) (failed failures : ℕ) → other ≡ line → Told other old new failed failures

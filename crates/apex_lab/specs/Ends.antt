@@ -4,7 +4,8 @@ use Rattle.apex_pictures.specs.declared.Excerpt.{Excerpt}
 use Rattle.apex_views.specs.Faults.{excerpt_line}
 use Rattle.apex_views.specs.Shows.{ShowEnd}
 use Rattle.apex_views.specs.Shows as showing
-use Rattle.apex_lab.specs.Faults.{fault_of_showing, line_of_fault, status_of_fault}
+use Rattle.apex_inquiries.specs.Ends as inquiry
+use Rattle.apex_lab.specs.Faults.{fault_of_search, fault_of_showing, line_of_fault, status_of_fault}
 use Rattle.apex_lab.specs.declared.faults.LabFault.{LabFault}
 use Rattle.apex_lab.specs.declared.ends.Ending.{Ending}
 use Rattle.apex_lab.specs.declared.ends.Ending.TheVariants.{Complete, Departed, Explained, Found, InPart, Refused, Warned}
@@ -35,6 +36,12 @@ end_of_showing showing.complete = complete
 end_of_showing (showing.in_part excerpt) = in_part excerpt
 end_of_showing (showing.departs report) = departs report
 end_of_showing (showing.fails fault) = fails (fault_of_showing fault)
+
+-- the end with that of a search
+abbrev pub end_of_search : inquiry.End → End
+end_of_search inquiry.found = finds
+end_of_search inquiry.unfound = complete
+end_of_search (inquiry.fails fault) = fails (fault_of_search fault)
 
 -- the end of an outcome
 abbrev pub end_in : Result Ending LabFault → End

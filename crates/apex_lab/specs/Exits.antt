@@ -10,11 +10,13 @@ use Rattle.apex_views.specs.Shows.{ShowEnd, ShowEnds}
 use Rattle.apex_showings.specs.declared.BadSchedule.{BadSchedule}
 use Rattle.apex_lab.specs.Checks.{CheckEnds}
 use Rattle.apex_lab.specs.Dumps.{DumpEnds}
-use Rattle.apex_lab.specs.Ends.{End, end_of_showing, fails}
-use Rattle.apex_lab.specs.Lints.{Lint, LintEnds}
-use Rattle.apex_lab.specs.Searches.{SearchEnds}
+use Rattle.apex_inquiries.specs.Ends as inquiry
+use Rattle.apex_inquiries.specs.Searches.{SearchEnds}
+use Rattle.apex_lab.specs.Ends.{End, end_of_search, end_of_showing, fails}
+use Rattle.apex_lab.specs.Lints.{LintEnds}
+use Rattle.apex_tasks.specs.Lints.{Lint}
 use Rattle.apex_lab.specs.Steps.{StepEnds}
-use Rattle.apex_lab.specs.Tasks.{Asked, Unasked, ill_formed, no_schedule, to_check, to_dump, to_lint, to_search, to_show, to_step, to_why}
+use Rattle.apex_tasks.specs.Tasks.{Asked, Unasked, ill_formed, no_schedule, to_check, to_dump, to_lint, to_search, to_show, to_step, to_why}
 use Rattle.apex_lab.specs.Whys.{WhyEnds}
 use Rattle.apex_lab.specs.declared.faults.LabFault.TheVariants.{Common, Schedule as BadText}
 use Rattle.apex_questions.specs.declared.Search.{Search}
@@ -38,8 +40,8 @@ pub data Ends (asked : Result Asked Unasked) (before : Ports) : End → Ports �
   of_showing : {showing : Showing} {ends : ShowEnd} {after : Ports} → asked ≡ Ok (to_show showing)
       → ShowEnds showing before ends after → Ends asked before (end_of_showing ends) after
   -- the schedules of a pace are searched
-  of_search : {search : Search} {ends : End} {after : Ports} → asked ≡ Ok (to_search search)
-      → SearchEnds search before ends after → Ends asked before ends after
+  of_search : {search : Search} {ends : inquiry.End} {after : Ports} → asked ≡ Ok (to_search search)
+      → SearchEnds search before ends after → Ends asked before (end_of_search ends) after
   -- a table is linted
   of_lint : {lint : Lint} {ends : End} {after : Ports} → asked ≡ Ok (to_lint lint)
       → LintEnds lint before ends after → Ends asked before ends after

@@ -4,10 +4,26 @@ use Rattle.apex_console.specs.Faults.{fault_line, status_of_fault as common_stat
 use Rattle.apex_console.specs.declared.CliFault.{CliFault}
 use Rattle.apex_console.specs.declared.CliFault.TheVariants.{Usage}
 use Rattle.apex_views.specs.Faults.{schedule_line, window_line}
+use Rattle.apex_inquiries.specs.declared.SearchFault.{SearchFault}
+use Rattle.apex_inquiries.specs.declared.SearchFault.TheVariants as search
+use Rattle.apex_tasks.specs.Faults.{usage_line}
+use Rattle.apex_tasks.specs.declared.TaskFault.{TaskFault}
+use Rattle.apex_tasks.specs.declared.TaskFault.TheVariants as task
 use Rattle.apex_views.specs.declared.ShowFault.{ShowFault}
 use Rattle.apex_views.specs.declared.ShowFault.TheVariants as showing
 use Rattle.apex_lab.specs.declared.faults.LabFault.{LabFault}
 use Rattle.apex_lab.specs.declared.faults.LabFault.TheVariants.{Common, Empty, NoEntry, NoProcess, Schedule, StatesFull}
+
+-- the fault of words that ask for nothing
+abbrev pub fault_of_task : TaskFault → LabFault
+fault_of_task (task.Common fault) = Common fault
+fault_of_task (task.Schedule bad) = Schedule bad
+
+-- a fault of a search
+abbrev pub fault_of_search : SearchFault → LabFault
+fault_of_search (search.Common fault) = Common fault
+fault_of_search (search.NoProcess name) = NoProcess name
+fault_of_search (search.StatesFull room) = StatesFull room
 
 -- a fault of a showing
 abbrev pub fault_of_showing : ShowFault → LabFault
@@ -15,11 +31,6 @@ fault_of_showing (showing.Common fault) = Common fault
 fault_of_showing (showing.Schedule bad) = Schedule bad
 fault_of_showing (showing.Empty window) = Empty window
 fault_of_showing (showing.NoProcess name) = NoProcess name
-
--- the line that reports ill-formed words
-abbrev pub usage_line : List ℕ
-usage_line =
-    codes "apex_lab: usage: apex_lab svg|trace|vcd|lines|status|report|schedule [--schedule S|--until T], apex_lab search [--for WORD|--worst P], apex_lab lint|step|check, apex_lab why --entry N\n"
 
 -- the line of a fault that the program `apex` has too; ill-formed words have a line of this program
 abbrev pub common_line : CliFault → List ℕ

@@ -1,13 +1,6 @@
-pub mod Words
 pub mod Faults
-pub mod Numbers
-pub mod Windows
-pub mod Questions
-pub mod Names
-pub mod Tasks
 pub mod Ends
 pub mod Lints
-pub mod Searches
 pub mod Steps
 pub mod Checks
 pub mod Whys

@@ -14,8 +14,9 @@ use apex_console::{CliFault, Run, booted};
 use apex_dispatch::{Kernel, events_in};
 use apex_history::{Counted, Sink, Source};
 use apex_process::QueueStore;
+use apex_showings::{Listing, RunSource, Showing, View};
 use apex_types::Event;
-use apex_views::{Departure, Given, GivenRun, Listing, RunSource, Showing, View, given_by};
+use apex_views::{Departure, Given, GivenRun, given_by};
 use apex_waves::{Sheet, print_waves};
 use std::alloc::{AllocError, Global};
 

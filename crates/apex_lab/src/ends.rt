@@ -6,10 +6,11 @@ ghost use Rattle.apex_lab.specs.Ends.{end_in, report_of, status_of};
 ghost use Rattle.apex_lab.specs.Faults.{line_of_fault};
 ghost use Rattle.apex_views.specs.Faults.{excerpt_line};
 
-use crate::faults::{LabFault, USAGE, entry_line, process_line, states_line};
+use crate::faults::{LabFault, entry_line, process_line, states_line};
 use apex_console::{CliFault, fault_line, write_error};
 use apex_history::{Counted, Lines, Sink};
 use apex_pictures::Excerpt;
+use apex_tasks::USAGE;
 use apex_views::{excerpt_line, schedule_line, window_line};
 
 /// The end of the program if it meets no fault.

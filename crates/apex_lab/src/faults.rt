@@ -3,21 +3,20 @@ ghost use Rattle.std.specs.Prelude.{◌≡◌, ◌+◌, ◌≤◌, ◌++◌, len
 ghost use Rattle.arrayvec.specs.ArrayVec.{array_vec_len};
 ghost use Rattle.apex_console.specs.Faults.{fault_of_read};
 ghost use Rattle.apex_console.specs.declared.CliFault.TheVariants.{Memory};
-ghost use Rattle.apex_lab.specs.Faults.{entry_line, fault_of_showing, process_line, states_line, status_of_fault};
+ghost use Rattle.apex_lab.specs.Faults.{entry_line, fault_of_search, fault_of_showing, fault_of_task, process_line, states_line, status_of_fault};
 ghost use Rattle.apex_lab.specs.declared.faults.LabFault.TheVariants.{Common};
 ghost use Rattle.apex_lab.specs.declared.faults.TheConstants.{PROCESS_ROOM};
 
 use apex_console::CliFault;
 use apex_history::ReadFault;
+use apex_inquiries::SearchFault;
+use apex_showings::{BadSchedule, EmptyWindow};
+use apex_tasks::TaskFault;
 use apex_types::Name;
-use apex_views::{BadSchedule, EmptyWindow, ShowFault};
+use apex_views::ShowFault;
 use arrayvec::{ArrayString, ArrayVec};
 use itoa::Buffer;
 use std::alloc::AllocError;
-
-/// The line that reports ill-formed words.
-pub const USAGE: &str =
-    "apex_lab: usage: apex_lab svg|trace|vcd|lines|status|report|schedule [--schedule S|--until T], apex_lab search [--for WORD|--worst P], apex_lab lint|step|check, apex_lab why --entry N\n";
 
 /// Room for the bytes of a line that reports a fault with a number.
 const NUMBER_ROOM: usize = 64;
@@ -62,11 +61,26 @@ impl LabFault {
     }
 }
 
-impl From<CliFault> for LabFault {
-    ghost from_gives = { λ error fault. fault ≡ Common error };
+impl From<TaskFault> for LabFault {
+    ghost from_gives = { λ error fault. fault ≡ fault_of_task error };
 
-    fn from(error: CliFault) -> LabFault {
-        LabFault::Common(error)
+    fn from(error: TaskFault) -> LabFault {
+        match error {
+            TaskFault::Common(fault) => LabFault::Common(fault),
+            TaskFault::Schedule(bad) => LabFault::Schedule(bad),
+        }
+    }
+}
+
+impl From<SearchFault> for LabFault {
+    ghost from_gives = { λ error fault. fault ≡ fault_of_search error };
+
+    fn from(error: SearchFault) -> LabFault {
+        match error {
+            SearchFault::Common(fault) => LabFault::Common(fault),
+            SearchFault::NoProcess(name) => LabFault::NoProcess(name),
+            SearchFault::StatesFull(room) => LabFault::StatesFull(room),
+        }
     }
 }
 

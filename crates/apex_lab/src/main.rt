@@ -9,22 +9,14 @@ mod dumping;
 mod ends;
 mod faults;
 mod linting;
-mod names;
-mod numbers;
 mod program;
-mod progress;
-mod questions;
-mod searching;
 mod stepping;
-mod tasks;
 mod whys;
-mod windows;
-mod words;
 
 use crate::program::serve;
-use crate::progress::Progress;
 use apex_console::given_words;
 use apex_history::Counted;
+use apex_inquiries::Progress;
 use std::io;
 use std::process::ExitCode;
 

@@ -3,9 +3,10 @@ ghost use Rattle.std.specs.Prelude.{◌≡◌, MatchResult, map, string_bytes};
 ghost use Rattle.apex_history.specs.Counted.{inner_of, failures_of};
 ghost use Rattle.apex_console.specs.Streams.{Told, ports_of};
 ghost use Rattle.apex_views.specs.Shows.{end_in as shown_end};
-ghost use Rattle.apex_lab.specs.Ends.{End, end_in, end_of_showing, fails, report_of, status_of};
+ghost use Rattle.apex_inquiries.specs.Ends.{end_in as searched_end};
+ghost use Rattle.apex_lab.specs.Ends.{End, end_in, end_of_search, end_of_showing, fails, report_of, status_of};
 ghost use Rattle.apex_lab.specs.Exits.{Ends};
-ghost use Rattle.apex_lab.specs.Tasks.{asked_by};
+ghost use Rattle.apex_tasks.specs.Tasks.{asked_by};
 ghost use Rattle.apex_lab.specs.declared.faults.LabFault.TheVariants.{Common};
 
 use crate::checking::run_check;
@@ -13,13 +14,12 @@ use crate::dumping::run_dump;
 use crate::ends::{Ending, status_of, tell};
 use crate::faults::LabFault;
 use crate::linting::run_lint;
-use crate::progress::Progress;
-use crate::searching::run_search;
 use crate::stepping::run_steps;
-use crate::tasks::{Task, task_asked};
 use crate::whys::run_why;
 use apex_console::CliFault;
 use apex_history::{Counted, Sink, Source};
+use apex_inquiries::{Progress, SearchEnding, SearchFault, run_search};
+use apex_tasks::{Task, task_asked};
 use apex_views::{ShowFault, Shown, show_run};
 use std::alloc::Global;
 use std::marker::Sync;
@@ -34,6 +34,17 @@ fn ending_of(outcome: Result<Shown, ShowFault>) -> Result<Ending, LabFault>
         Ok(Shown::Complete) => Ok(Ending::Complete),
         Ok(Shown::InPart(excerpt)) => Ok(Ending::InPart(excerpt)),
         Ok(Shown::Departed(verdict)) => Ok(Ending::Departed(verdict)),
+        Err(fault) => Err(LabFault::from(fault)),
+    }
+}
+
+/// The end of the program with this outcome of a search.
+fn ending_of_search(outcome: Result<SearchEnding, SearchFault>) -> Result<Ending, LabFault>
+    ensures { end_in result ≡ end_of_search (searched_end outcome) }
+{
+    match outcome {
+        Ok(SearchEnding::Found) => Ok(Ending::Found),
+        Ok(SearchEnding::Never) => Ok(Ending::Complete),
         Err(fault) => Err(LabFault::from(fault)),
     }
 }
@@ -54,7 +65,9 @@ fn carry_out<H: Threads + Sync + Clock, R: Source, W: Sink>(
     let task = task_asked(alloc, words)?;
     match task {
         Task::Show(showing) => ending_of(show_run(alloc, &showing, reader, writer)),
-        Task::Search(search) => run_search(host, progress, alloc, &search, reader, writer),
+        Task::Search(search) => {
+            ending_of_search(run_search(host, progress, alloc, &search, reader, writer))
+        }
         Task::Lint(lint) => run_lint(alloc, &lint, reader, writer),
         Task::Step(form) => run_steps(alloc, form, reader, writer),
         Task::Check { form, comments } => run_check(alloc, form, comments, reader, writer),

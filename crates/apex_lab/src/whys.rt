@@ -12,19 +12,12 @@ use crate::faults::LabFault;
 use apex_console::{CliFault, Run};
 use apex_departures::why;
 use apex_history::{Counted, Sink, Source};
-use apex_views::{Departure, Given, GivenRun, Listing, RunSource, Showing, View, given_by};
+use apex_showings::{Listing, Showing, View};
+use apex_tasks::Why;
+use apex_views::{Departure, Given, GivenRun, given_by};
 use std::alloc::Global;
 use std::io;
 use std::io::Write;
-
-/// An entry whose reason is asked for.
-#[derive(Drop)]
-pub struct Why {
-    /// How the run is given.
-    pub source: RunSource,
-    /// The number of the entry, from 1.
-    pub entry: u32,
-}
 
 /// Writes a reason, and a line feed.
 fn print_reason<W: Sink>(reason: &[u8], writer: &mut Counted<W>) -> io::Result<()>

@@ -15,7 +15,7 @@ pub returns-in-Show : goal.returns-in-Show
 returns-in-Show g c = rw c.ending_of.ensures (of_showing (rw c.in-Show.is at c.in_ok-task.ensures.ok) c.show_run.ensures)
 
 pub returns-in-Search : goal.returns-in-Search
-returns-in-Search g c = of_search (rw c.in-Search.is at c.in_ok-task.ensures.ok) c.run_search.ensures
+returns-in-Search g c = rw c.ending_of_search.ensures (of_search (rw c.in-Search.is at c.in_ok-task.ensures.ok) c.run_search.ensures)
 
 pub returns-in-Lint : goal.returns-in-Lint
 returns-in-Lint g c = of_lint (rw c.in-Lint.is at c.in_ok-task.ensures.ok) c.run_lint.ensures

@@ -1,0 +1,2 @@
+pub mod SearchEndings
+pub mod SearchLemmas
