@@ -11,7 +11,7 @@ use Rattle.apex_machine.specs.table.Table.{IsLawful, Table}
 use Rattle.apex_pace.specs.Pace.{paced_opening, paced_run}
 use Rattle.apex_search.specs.Answers.{IsShortestSchedule, schedule_of}
 use Rattle.apex_search.specs.Steps.{Searched}
-use Rattle.apex_table.specs.declared.TableFault.{TableFault}
+use Rattle.apex_words.specs.declared.TableFault.{TableFault}
 use Rattle.apex_types.specs.declared.entries.Entry.{Entry}
 use Rattle.apex_types.specs.declared.entries.Event.{Event}
 use Rattle.apex_answers.specs.Answers.{Says, beyond, finds, found, is_beyond}

@@ -4,7 +4,7 @@ use Rattle.std.specs.List.{AllByRecursion, flat_map}
 use Rattle.std.proofs.lemmas.Grind.{flat_map-append}
 use Rattle.apex_machine.specs.table.Table.{Table}
 use Rattle.apex_table.specs.Reading.{table_of}
-use Rattle.apex_table.specs.declared.TableFault.{TableFault}
+use Rattle.apex_words.specs.declared.TableFault.{TableFault}
 use Rattle.apex_check.specs.Texts.{BeginsWithTable, HasNoSeparator, IsOfTable, IsOneLine, IsParted, ended, line_feeds, separator, text_of}
 use Rattle.apex_check.proofs.FirstLines.{feeds_append, feeds_cons, feeds_ended, same_first, some_feed}
 

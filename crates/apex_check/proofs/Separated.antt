@@ -5,10 +5,10 @@ use Rattle.std.proofs.lemmas.Grind.{flat_map-append}
 use Rattle.std.proofs.lemmas.List.{drop-append-le, drop_all, take-append-le, take_all}
 use Rattle.apex_table.proofs.Results.{all_append}
 use Rattle.std.specs.Io.KnownBytes.{IsAtEnd}
-use Rattle.apex_table.specs.Outcome.{Fails}
+use Rattle.apex_words.specs.Outcome.{Fails}
 use Rattle.apex_table.specs.Reading.{table_of}
-use Rattle.apex_table.specs.declared.TableFault.{TableFault}
-use Rattle.apex_table.specs.declared.TableFault.TheVariants as table_fault
+use Rattle.apex_words.specs.declared.TableFault.{TableFault}
+use Rattle.apex_words.specs.declared.TableFault.TheVariants as table_fault
 use Rattle.apex_check.specs.declared.pending.Next.{Next}
 use Rattle.apex_check.specs.declared.pending.Next.TheVariants.{Rest, End}
 use Rattle.apex_check.specs.declared.verdicts.CheckFault.TheVariants.{Table}

@@ -3,7 +3,7 @@ use Rattle.std.specs.Prelude.{◌≡◌, ◌++◌, codes, decimal, ℕ, List, Op
 use Rattle.apex_history.specs.Counted.{one_more}
 use Rattle.apex_check.specs.declared.verdicts.CheckFault.{CheckFault}
 use Rattle.apex_check.specs.declared.verdicts.CheckFault.TheVariants.{Memory, Table, NoSeparator, BadLine, TooLong, Read, Write}
-use Rattle.apex_table.specs.Fault as tables
+use Rattle.apex_words.specs.Fault as tables
 use Rattle.apex_check.specs.Ahead.{IsAhead}
 use Rattle.apex_check.specs.Verdicts.{IsAtFault}
 

@@ -1,6 +1,6 @@
 -- The fault of a table as one of a text.
-use Rattle.apex_table.specs.declared.TableFault.{TableFault}
-use Rattle.apex_table.specs.declared.TableFault.TheVariants as table_fault
+use Rattle.apex_words.specs.declared.TableFault.{TableFault}
+use Rattle.apex_words.specs.declared.TableFault.TheVariants as table_fault
 use Rattle.apex_check.specs.declared.verdicts.CheckFault.{CheckFault}
 use Rattle.apex_check.specs.declared.verdicts.CheckFault.TheVariants.{Memory, Table}
 

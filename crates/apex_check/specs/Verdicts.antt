@@ -6,8 +6,8 @@ use Rattle.apex_machine.specs.table.Table.{Table}
 use Rattle.apex_machine.specs.Machine.{Machine, opening, run}
 use Rattle.apex_calls.specs.Lines.{line_of}
 use Rattle.apex_table.specs.Reading.{table_of}
-use Rattle.apex_table.specs.declared.TableFault.{TableFault}
-use Rattle.apex_table.specs.declared.TableFault.TheVariants as table_fault
+use Rattle.apex_words.specs.declared.TableFault.{TableFault}
+use Rattle.apex_words.specs.declared.TableFault.TheVariants as table_fault
 use Rattle.apex_history.specs.declared.LineFault.TheVariants as line_fault
 use Rattle.apex_check.specs.declared.verdicts.Verdict.{Verdict}
 use Rattle.apex_check.specs.declared.verdicts.Verdict.TheVariants.{Legal, DepartsAt}

@@ -10,8 +10,8 @@ ghost use Rattle.apex_check.specs.declared.verdicts.CheckFault.TheVariants.{Memo
 
 use apex_configs::Table;
 use apex_history::{Lines, NextSteps, put_line};
-use apex_table::TableFault;
 use apex_types::Entry;
+use apex_words::TableFault;
 use itoa::Buffer;
 use std::alloc::AllocError;
 use std::error::Error;

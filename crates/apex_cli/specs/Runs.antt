@@ -5,7 +5,7 @@ use Rattle.apex_types.specs.declared.entries.Entry.{Entry}
 use Rattle.apex_calls.specs.Lines.{lines_of}
 use Rattle.apex_machine.specs.table.Table as tables
 use Rattle.apex_table.specs.Reading.{table_of}
-use Rattle.apex_table.specs.declared.TableFault.{TableFault}
+use Rattle.apex_words.specs.declared.TableFault.{TableFault}
 use Rattle.apex_history.specs.Counted.{AppendsBeginning}
 use Rattle.apex_history.specs.Ports.{Ports, NoneFails, AReadFails, AWriteFails, IsLeft}
 use Rattle.apex_board.specs.Fronts.{Front, IsFrontAfter}

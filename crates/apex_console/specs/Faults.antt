@@ -2,9 +2,9 @@
 use Rattle.std.specs.Prelude.{◌≡◌, ◌⊎◌, codes, decimal, ℕ, List, [], ◌∷◌, ◌++◌, Option, Some, None, Result, Ok, Err}
 use Rattle.apex_history.specs.declared.ReadFault.{ReadFault}
 use Rattle.apex_history.specs.declared.ReadFault.TheVariants as read
-use Rattle.apex_table.specs.declared.TableFault.{TableFault}
-use Rattle.apex_table.specs.Fault as tables
-use Rattle.apex_table.specs.declared.TableFault.TheVariants as table
+use Rattle.apex_words.specs.declared.TableFault.{TableFault}
+use Rattle.apex_words.specs.Fault as tables
+use Rattle.apex_words.specs.declared.TableFault.TheVariants as table
 use Rattle.apex_console.specs.declared.faults.CliFault.{CliFault}
 use Rattle.apex_console.specs.declared.faults.CliFault.TheVariants.{Usage, Table, NoSeparator, BadLine, TooLong, HistoryFull, Memory, NoThread, Read, Write}
 use Rattle.apex_check.specs.declared.CheckFault.{CheckFault}

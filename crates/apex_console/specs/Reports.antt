@@ -5,7 +5,7 @@ use Rattle.apex_machine.specs.table.Table as tables
 use Rattle.apex_machine.specs.text.Listing.{listing}
 use Rattle.apex_machine.specs.Machine.{Machine, run, opening}
 use Rattle.apex_calls.specs.Lines.{lines_of}
-use Rattle.apex_table.specs.declared.TableFault.{TableFault}
+use Rattle.apex_words.specs.declared.TableFault.{TableFault}
 use Rattle.apex_table.specs.Reading.{table_of}
 use Rattle.apex_schedules.specs.declared.Item.{Item}
 use Rattle.apex_console.specs.declared.faults.CliFault.{CliFault}

@@ -1,14 +1,14 @@
 //! The faults with which a program ends, their lines and their statuses.
 ghost use Rattle.std.specs.Prelude.{◌≡◌, ◌+◌, ◌≤◌, ◌++◌, Some, decimal};
 ghost use Rattle.arrayvec.specs.ArrayString.{array_string_len};
-ghost use Rattle.apex_table.specs.Fault as tables;
+ghost use Rattle.apex_words.specs.Fault as tables;
 ghost use Rattle.apex_console.specs.Faults.{fault_of_checking, fault_of_read, fault_of_table, fault_text, fault_line, status_of_fault};
 ghost use Rattle.apex_console.specs.declared.faults.CliFault.TheVariants.{Memory};
 ghost use Rattle.apex_console.specs.declared.faults.TheConstants.{FAULT_ROOM};
 
 use apex_check::CheckFault;
 use apex_history::ReadFault;
-use apex_table::TableFault;
+use apex_words::TableFault;
 use arrayvec::ArrayString;
 use itoa::Buffer;
 use std::alloc::AllocError;

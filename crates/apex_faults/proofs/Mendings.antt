@@ -6,7 +6,7 @@ use Rattle.std.proofs.lemmas.Str.{IsUtf8-string_bytes}
 use Rattle.toml.specs.Data.{Data, Members, table}
 use Rattle.toml.specs.Parse.{parse_document}
 use Rattle.apex_machine.specs.table.Table.{Table}
-use Rattle.apex_table.specs.Outcome.{◌>>=◌}
+use Rattle.apex_words.specs.Outcome.{◌>>=◌}
 use Rattle.apex_table.specs.Reading.{document, reading, table_of}
 use Rattle.apex_table.proofs.Document.{found}
 use Rattle.apex_faults.specs.Depth.{is_printable}

@@ -4,12 +4,12 @@ use Rattle.std.specs.Prelude.{ℕ, zero, suc, not, List, [], Option, Some, None}
 use Rattle.std.specs.List.{find}
 use Rattle.toml.specs.Data.{Data, Members, no_members, array, table, item, no_items}
 use Rattle.apex_types.specs.declared.limits.TheConstants.{MOST_INIT_STEPS, MOST_OBJECTS, MOST_PROCESSES, MOST_STEPS}
-use Rattle.apex_table.specs.Fault.{key_word, parts_of}
+use Rattle.apex_words.specs.Fault.{key_word, parts_of}
 use Rattle.apex_table.specs.Keys.{is_one_of, key_names}
-use Rattle.apex_table.specs.declared.fault.Section.TheVariants as section
-use Rattle.apex_table.specs.declared.fault.TableFault.TheVariants.{Memory, NotToml, MissingKey, WrongType, OutOfRange, BadName, DoubleName, UnknownName, UnknownKey, BadStep, BadInitStep, TooMany}
-use Rattle.apex_table.specs.declared.key.Key.TheVariants as key
-use Rattle.apex_table.specs.declared.subject.Part.TheVariants as part
+use Rattle.apex_words.specs.declared.fault.Section.TheVariants as section
+use Rattle.apex_words.specs.declared.fault.TableFault.TheVariants.{Memory, NotToml, MissingKey, WrongType, OutOfRange, BadName, DoubleName, UnknownName, UnknownKey, BadStep, BadInitStep, TooMany}
+use Rattle.apex_words.specs.declared.key.Key.TheVariants as key
+use Rattle.apex_words.specs.declared.subject.Part.TheVariants as part
 use Rattle.apex_faults.specs.Paths.{changed, found, subject_path}
 use Rattle.apex_faults.specs.Plain.{keys_of, plain_entry, plain_section, plain_step, plain_value}
 use Rattle.apex_faults.specs.Terms.{Key, Part, PathStep, Section, Subject, TableFault}

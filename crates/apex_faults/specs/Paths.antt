@@ -1,10 +1,10 @@
 -- The way from the top of TOML's tree to what a fault is about.
 use Rattle.std.specs.Prelude.{ℕ, zero, suc, ◌-◌, List, [], ◌∷◌, Option, Some, None, option_and_then}
 use Rattle.toml.specs.Data.{Data, get, at}
-use Rattle.apex_table.specs.Fault.{key_word}
-use Rattle.apex_table.specs.declared.fault.Section.TheVariants.{Top, Init}
-use Rattle.apex_table.specs.declared.key.Key.TheVariants as key
-use Rattle.apex_table.specs.declared.subject.Part.TheVariants as part
+use Rattle.apex_words.specs.Fault.{key_word}
+use Rattle.apex_words.specs.declared.fault.Section.TheVariants.{Top, Init}
+use Rattle.apex_words.specs.declared.key.Key.TheVariants as key
+use Rattle.apex_words.specs.declared.subject.Part.TheVariants as part
 use Rattle.apex_faults.specs.Terms.{Key as KeyWord, PathStep, Part, Section, Subject}
 use Rattle.apex_faults.specs.Trees.{put_item, put_member}
 use Rattle.apex_faults.specs.declared.paths.PathStep.TheVariants.{Key, Item}

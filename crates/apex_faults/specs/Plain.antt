@@ -6,13 +6,13 @@ use Rattle.apex_types.specs.declared.limits.TheConstants.{MOST_CORES, MOST_ENTRI
 use Rattle.apex_table.specs.Blackboards.{blackboards}
 use Rattle.apex_table.specs.Buffers.{buffers}
 use Rattle.apex_table.specs.EventFlags.{event_flags}
-use Rattle.apex_table.specs.Fault.{key_word}
+use Rattle.apex_words.specs.Fault.{key_word}
 use Rattle.apex_table.specs.Mutexes.{mutexes}
 use Rattle.apex_table.specs.Processes.{process_keys}
 use Rattle.apex_table.specs.Reading.{top_keys}
 use Rattle.apex_table.specs.Semaphores.{semaphores}
-use Rattle.apex_table.specs.declared.fault.Section.TheVariants as section
-use Rattle.apex_table.specs.declared.key.Key.TheVariants as key
+use Rattle.apex_words.specs.declared.fault.Section.TheVariants as section
+use Rattle.apex_words.specs.declared.key.Key.TheVariants as key
 use Rattle.apex_faults.specs.Terms.{Key, Section}
 use Rattle.apex_faults.specs.Trees.{with_member}
 

@@ -7,8 +7,8 @@ use crate::shown::{
 };
 use crate::wanted::{kind_word, section_of, shape_word, wanted_at, wanted_name, wanted_word};
 use apex_calls::{Row, Shape, row_of_word};
-use apex_table::{Key, Part, Place, Section, Subject, TableFault};
 use apex_types::{MOST_NAME, MOST_PROCESSES, MOST_PROCESSES_IN_ONE};
+use apex_words::{Key, Part, Place, Section, Subject, TableFault};
 use std::alloc::{AllocError, Global};
 use toml::Value;
 

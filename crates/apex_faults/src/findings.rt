@@ -11,7 +11,8 @@ use crate::locations::{Location, locate, location_after};
 use crate::mending::mended;
 use crate::paths::{found, place_path};
 use crate::shown::other_key;
-use apex_table::{Part, Subject, TableFault, read_table};
+use apex_table::read_table;
+use apex_words::{Part, Subject, TableFault};
 use std::alloc::{AllocError, Global};
 use toml::Value;
 

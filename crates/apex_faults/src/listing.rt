@@ -5,14 +5,15 @@ ghost use Rattle.toml.specs.Data.{table, members_depth, members_have_valid_dates
 ghost use Rattle.toml.specs.Parse.{parse_document};
 ghost use Rattle.toml.specs.View.{view, table_view};
 ghost use Rattle.apex_table.specs.Reading.{document, table_of};
-ghost use Rattle.apex_table.specs.declared.fault.TableFault.TheVariants.{NotToml};
+ghost use Rattle.apex_words.specs.declared.fault.TableFault.TheVariants.{NotToml};
 ghost use Rattle.apex_faults.specs.Depth.{is_printable};
 ghost use Rattle.apex_faults.specs.Faults.{fault_in, faults, fault_of, faults_of, BeginsWith};
 ghost use Rattle.apex_faults.specs.declared.listing.TheConstants.{MOST_FAULTS};
 
 use crate::depth::members_fit;
 use crate::mending::mended;
-use apex_table::{TableFault, read_table};
+use apex_table::read_table;
+use apex_words::TableFault;
 use std::alloc::{AllocError, Global};
 use toml::{Table, Value};
 

@@ -3,7 +3,7 @@ ghost use Rattle.std.specs.Prelude.{◌≡◌, ◌+◌, ◌-◌, ◌^◌, ◌≤
 ghost use Rattle.apex_faults.specs.Locations.{IsLocationIn, after_byte, location_after};
 
 use crate::scanning::{Expression, after_value, from_next, next_expression};
-use apex_table::{Key, Part, Place, Section, Subject};
+use apex_words::{Key, Part, Place, Section, Subject};
 
 /// A line and a column of a text, both counted from 1; a column counts characters.
 #[derive(Clone, Copy, Debug, PartialEq, Eq)]

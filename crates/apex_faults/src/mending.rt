@@ -7,8 +7,8 @@ ghost use Rattle.apex_faults.specs.Mended.{cut, fault_path, mended, mended_part,
 
 use crate::paths::{PathStep, changed, found, subject_path};
 use crate::plain::{array_of, keys_of, plain_entry, plain_section, plain_step, plain_value};
-use apex_table::{Key, Part, Section, Subject, TableFault};
 use apex_types::{MOST_INIT_STEPS, MOST_OBJECTS, MOST_PROCESSES, MOST_STEPS};
+use apex_words::{Key, Part, Section, Subject, TableFault};
 use std::alloc::{AllocError, Global};
 use toml::{Table, Value};
 

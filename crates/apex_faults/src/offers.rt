@@ -4,7 +4,7 @@ use crate::plain::keys_of;
 use crate::shown::{MOST_SHOWN, shown_text};
 use crate::suggestions::nearest;
 use apex_calls::CATALOGUE;
-use apex_table::Section;
+use apex_words::Section;
 use std::alloc::{AllocError, Global};
 
 /// The words with commas between them.

@@ -1,11 +1,11 @@
 //! The way from the top of TOML's tree to what a fault is about.
 ghost use Rattle.std.specs.Prelude.{◌≡◌, option_map, IfOk};
 ghost use Rattle.toml.specs.View.{view, array_view, table_view};
-ghost use Rattle.apex_table.specs.Fault.{key_word};
+ghost use Rattle.apex_words.specs.Fault.{key_word};
 ghost use Rattle.apex_faults.specs.Paths.{changed, found, key_path, part_path, place_path, step_finds, step_path, step_puts, subject_path};
 ghost use Rattle.apex_faults.specs.Trees.{put_item, put_member, with_item, with_member};
 
-use apex_table::{Key, Part, Section, Subject};
+use apex_words::{Key, Part, Section, Subject};
 use std::alloc::{AllocError, Global};
 use toml::{Table, Value};
 

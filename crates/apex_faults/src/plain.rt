@@ -5,8 +5,8 @@ ghost use Rattle.toml.specs.View.{view};
 ghost use Rattle.apex_faults.specs.Plain.{keys_of, plain_entry, plain_name, plain_section, plain_step, plain_value, with_plain};
 
 use crate::paths::insert;
-use apex_table::{Key, Section};
 use apex_types::{MOST_CORES, MOST_ENTRIES, MOST_MESSAGE, MOST_PROFILE, MOST_VALUE};
+use apex_words::{Key, Section};
 use std::alloc::{AllocError, Global};
 use toml::{Table, Value};
 

@@ -1,5 +1,5 @@
 //! Values, entries and parts of a table, as the text of a fault shows them.
-use apex_table::{Part, Place, Section};
+use apex_words::{Part, Place, Section};
 use std::alloc::{AllocError, Global};
 use toml::Value;
 

@@ -2,11 +2,11 @@
 ghost use Rattle.std.specs.Prelude.{◌≤◌};
 
 use apex_calls::{Kind, Shape};
-use apex_table::{Key, Section};
 use apex_types::{
     MOST_CORES, MOST_ENTRIES, MOST_MESSAGE, MOST_MESSAGES, MOST_NAME, MOST_PRIORITY, MOST_PROFILE,
     MOST_SPAN, MOST_STEPS, MOST_VALUE,
 };
+use apex_words::{Key, Section};
 use std::alloc::{AllocError, Global};
 use toml::Value;
 

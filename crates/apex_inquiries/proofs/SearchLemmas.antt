@@ -19,7 +19,7 @@ use Rattle.apex_search.specs.declared.End.TheVariants.{Closed}
 use Rattle.apex_questions.specs.declared.Fact.{Fact}
 use Rattle.apex_search.specs.declared.Finding.{Finding}
 use Rattle.apex_table.specs.Reading.{table_of}
-use Rattle.apex_table.specs.declared.TableFault.{TableFault}
+use Rattle.apex_words.specs.declared.TableFault.{TableFault}
 use Rattle.apex_inquiries.specs.Searches.{HasFacts, HasGreatest, HasShortest, IsAnswerFor, IsMissing, IsRefusalOf, IsSystemOf, IsTextFault, asked_process, for_fact, end_of_search, for_facts, for_response, system_about}
 use Rattle.apex_inquiries.specs.Ends.{found as found_one, unfound}
 use Rattle.apex_inquiries.specs.declared.endings.SearchFault.{SearchFault}

@@ -3,9 +3,9 @@ use Rattle.std.specs.Prelude.{◌≡◌, codes, decimal, ℕ, ◌+◌, zero, suc
 use Rattle.std.specs.List.{All, filter}
 use Rattle.apex_json.specs.Strings.{json_text}
 use Rattle.apex_machine.specs.table.Table.{Table}
-use Rattle.apex_table.specs.Fault.{key_word, section_word}
+use Rattle.apex_words.specs.Fault.{key_word, section_word}
 use Rattle.apex_table.specs.Reading.{table_of}
-use Rattle.apex_table.specs.declared.subject.Part.TheVariants as part
+use Rattle.apex_words.specs.declared.subject.Part.TheVariants as part
 use Rattle.apex_faults.specs.Locations.{IsLocationIn}
 use Rattle.apex_faults.specs.declared.Location.{Location}
 use Rattle.apex_remarks.specs.Remarks.{Head, head, heads_by, severity_word}

@@ -10,7 +10,8 @@ ghost use Rattle.apex_lint.specs.Reports.{HasALineForEach, IsReportOn, column_me
 use apex_faults::Location;
 use apex_json::put_json;
 use apex_remarks::{Remark, remarks_on_faults, remarks_on_table};
-use apex_table::{Part, Subject, TableFault, read_table};
+use apex_table::read_table;
+use apex_words::{Part, Subject, TableFault};
 use std::alloc::{AllocError, Global};
 
 /// How a report is written.

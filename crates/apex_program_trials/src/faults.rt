@@ -3,7 +3,7 @@
 use apex_check::CheckFault;
 use apex_cli::Exit;
 use apex_console::CliFault;
-use apex_table::{Key, Part, Place, Section, Subject, TableFault};
+use apex_words::{Key, Part, Place, Section, Subject, TableFault};
 use std::alloc::Global;
 use std::process::Abort;
 

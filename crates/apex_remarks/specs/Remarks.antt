@@ -3,10 +3,10 @@ use Rattle.std.specs.Prelude.{codes, ℕ, ◌+◌, Bool, not, List, map, Option,
 use Rattle.std.specs.List.{filter}
 use Rattle.apex_types.specs.declared.calls.Origin.TheVariants.{Init, Script}
 use Rattle.apex_machine.specs.table.Table.{Table}
-use Rattle.apex_table.specs.Fault.{parts_of}
-use Rattle.apex_table.specs.Subjects.{at_key, at_step, whole}
-use Rattle.apex_table.specs.declared.fault.Section.TheVariants as section
-use Rattle.apex_table.specs.declared.key.Key.TheVariants as key
+use Rattle.apex_words.specs.Fault.{parts_of}
+use Rattle.apex_words.specs.Subjects.{at_key, at_step, whole}
+use Rattle.apex_words.specs.declared.fault.Section.TheVariants as section
+use Rattle.apex_words.specs.declared.key.Key.TheVariants as key
 use Rattle.apex_faults.specs.Findings.{named_faults}
 use Rattle.apex_remarks.specs.Terms.{Origin, Place, Remark, Section, Severity, Subject, TableFault, Warning}
 use Rattle.apex_warnings.specs.Objects.{group_section}

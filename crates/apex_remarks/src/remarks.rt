@@ -3,16 +3,16 @@ ghost use Rattle.std.specs.Prelude.{◌≡◌, map, IfOk};
 ghost use Rattle.std.specs.List.{All, filter};
 ghost use Rattle.apex_faults.specs.Locations.{IsLocationIn};
 ghost use Rattle.apex_faults.specs.declared.Finding.{Finding};
-ghost use Rattle.apex_table.specs.Subjects.{whole};
+ghost use Rattle.apex_words.specs.Subjects.{whole};
 ghost use Rattle.apex_remarks.specs.Remarks.{at, fault_head, head, heads_of_faults, heads_of_warnings, is_told, severity_word, step_subject, warning_head, warning_subject};
 ghost use Rattle.apex_remarks.specs.Terms.{Remark};
 ghost use Rattle.apex_warnings.specs.Warnings.{warnings};
 
 use apex_configs::Table;
 use apex_faults::{Finding, Location, findings_of, locate};
-use apex_table::{Key, Part, Place, Section, Subject};
 use apex_types::{BlackboardId, BufferId, EventId, MutexId, Name, Origin, ProcessId, SemaphoreId};
 use apex_warnings::{Group, StepWarning, Warning, is_among, lint};
+use apex_words::{Key, Part, Place, Section, Subject};
 use std::alloc::{AllocError, Global};
 use std::str;
 

@@ -4,7 +4,7 @@ ghost use Rattle.apex_steps.specs.Faults.{fault_of_leading};
 ghost use Rattle.apex_steps.specs.declared.faults.StepFault.TheVariants.{Memory, Write};
 
 use apex_check::CheckFault;
-use apex_table::TableFault;
+use apex_words::TableFault;
 use std::alloc::AllocError;
 use std::io;
 use thiserror::Error;

@@ -5,8 +5,8 @@ use Rattle.std.specs.Str.{is_utf8}
 use Rattle.std.proofs.lemmas.Str.{IsUtf8-from_is_utf8, is_utf8-from_IsUtf8}
 use Rattle.toml.specs.Data.{Members}
 use Rattle.toml.specs.Parse.{parse_document}
-use Rattle.apex_table.specs.declared.fault.TableFault.TheVariants.{NotToml}
-use Rattle.apex_table.specs.Outcome.{some_or}
+use Rattle.apex_words.specs.declared.fault.TableFault.TheVariants.{NotToml}
+use Rattle.apex_words.specs.Outcome.{some_or}
 use Rattle.apex_table.specs.Reading.{document}
 
 found_text : (tree : Option Members) (b : Bool) (ms : Members) → b ≡ true → tree ≡ Some ms → some_or NotToml (if b then tree else None) ≡ Ok ms

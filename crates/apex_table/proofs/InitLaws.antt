@@ -5,11 +5,11 @@ use Rattle.toml.specs.Data.{Data}
 use Rattle.apex_types.specs.declared.limits.TheConstants.{MOST_INIT_STEPS, MOST_OBJECTS, MOST_PROCESSES}
 use Rattle.apex_machine.specs.table.Table.{ProcessConfig, Step, Table, IsLawfulStep}
 use Rattle.apex_types.specs.declared.calls.Origin.TheVariants as origin
-use Rattle.apex_table.specs.declared.fault.Section.TheVariants.{Init}
+use Rattle.apex_words.specs.declared.fault.Section.TheVariants.{Init}
 use Rattle.apex_table.specs.Terms.{Place, Profile}
-use Rattle.apex_table.specs.declared.fault.TableFault.TheVariants.{BadInitStep}
-use Rattle.apex_table.specs.Subjects.{whole}
-use Rattle.apex_table.specs.Outcome.{place}
+use Rattle.apex_words.specs.declared.fault.TableFault.TheVariants.{BadInitStep}
+use Rattle.apex_words.specs.Subjects.{whole}
+use Rattle.apex_words.specs.Outcome.{place}
 use Rattle.apex_table.specs.Keys.{array, at_most}
 use Rattle.apex_table.specs.Steps.{of_word, step}
 use Rattle.apex_configs.specs.Objects.{Objects}

@@ -7,9 +7,9 @@ use Rattle.std.proofs.lemmas.Result.{IfOk-at_ok, IfOk-weaker}
 use Rattle.apex_machine.specs.table.Table.{Table, ProcessConfig, Step, no_process, no_step, process_config, step_at, IsLawful}
 use Rattle.apex_types.specs.declared.calls.Origin.TheVariants as origin
 use Rattle.apex_calls.specs.CallText.{call_text, call_words, spaced}
-use Rattle.apex_table.specs.declared.fault.Section.TheVariants as sections
+use Rattle.apex_words.specs.declared.fault.Section.TheVariants as sections
 use Rattle.apex_table.specs.Terms.{Origin, Place, Profile}
-use Rattle.apex_table.specs.Outcome.{place}
+use Rattle.apex_words.specs.Outcome.{place}
 use Rattle.apex_table.specs.Processes.{ProcessDraft, process_names}
 use Rattle.apex_configs.specs.Objects.{Objects}
 use Rattle.apex_table.specs.Names.{Names, names_of}

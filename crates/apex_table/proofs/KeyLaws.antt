@@ -10,11 +10,11 @@ use Rattle.toml.specs.Data.{Data, Members, as_integer, as_str}
 use Rattle.apex_types.specs.declared.limits.TheConstants.{MOST_SPAN}
 use Rattle.apex_types.specs.Name.{is_name}
 use Rattle.apex_machine.specs.table.Table.{IsSpan}
-use Rattle.apex_table.specs.declared.key.Key.TheVariants as key
-use Rattle.apex_table.specs.Subjects.{at_key}
+use Rattle.apex_words.specs.declared.key.Key.TheVariants as key
+use Rattle.apex_words.specs.Subjects.{at_key}
 use Rattle.apex_table.specs.Terms.{Key, Place, Subject, TableFault}
-use Rattle.apex_table.specs.declared.fault.TableFault.TheVariants.{WrongType, OutOfRange, BadName, DoubleName, TooMany}
-use Rattle.apex_table.specs.Outcome.{some_or}
+use Rattle.apex_words.specs.declared.fault.TableFault.TheVariants.{WrongType, OutOfRange, BadName, DoubleName, TooMany}
+use Rattle.apex_words.specs.Outcome.{some_or}
 use Rattle.apex_table.specs.Keys.{value_at, required, optional, text_at, in_range, number, number_at, number_or, span_of, span_or_infinite, at_most, well_formed, name_at}
 use Rattle.apex_table.proofs.Results.{ok_then, ok_if, ok_unless}
 

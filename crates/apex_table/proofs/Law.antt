@@ -12,9 +12,9 @@ use Rattle.apex_types.specs.declared.limits.TheConstants.{MOST_CORES, MOST_ENTRI
 use Rattle.apex_machine.specs.table.Table.{Table, ProcessConfig, SemaphoreConfig, BufferConfig, BlackboardConfig, EventFlagConfig, MutexConfig, no_process, no_semaphore, no_buffer, no_blackboard, no_event_flag, no_mutex, Step, no_step, IsLawfulStep, IsLawfulProcess, IsLawfulSemaphore, IsLawfulBuffer, IsLawfulBlackboard, IsLawfulEventFlag, IsLawfulMutex, IsLawful}
 use Rattle.apex_types.specs.declared.calls.Origin.TheVariants as origin
 use Rattle.apex_table.specs.Terms.{Profile}
-use Rattle.apex_table.specs.declared.fault.Section.TheVariants.{Top, Init}
-use Rattle.apex_table.specs.declared.key.Key.TheVariants as key
-use Rattle.apex_table.specs.Outcome.{place}
+use Rattle.apex_words.specs.declared.fault.Section.TheVariants.{Top, Init}
+use Rattle.apex_words.specs.declared.key.Key.TheVariants as key
+use Rattle.apex_words.specs.Outcome.{place}
 use Rattle.apex_table.specs.Keys.{known, number_at, number_or, value_at}
 use Rattle.apex_table.specs.Processes.{ProcessDraft, process_names, some_process, processes}
 use Rattle.apex_table.specs.Sections.{section}

@@ -3,7 +3,6 @@ pub mod Document
 pub mod Results
 pub mod KeyLaws
 pub mod SectionLaws
-pub mod Messages
 pub mod Spelling
 pub mod Slots
 pub mod StepLaws

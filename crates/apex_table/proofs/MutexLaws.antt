@@ -3,7 +3,7 @@ use Rattle.std.proofs.Common.{◌≤◌, refl}
 use Rattle.std.proofs.lemmas.Result.{IfOk-at_ok}
 use Rattle.apex_types.specs.declared.limits.TheConstants.{MOST_PRIORITY}
 use Rattle.apex_machine.specs.table.Table.{IsLawfulMutex}
-use Rattle.apex_table.specs.declared.key.Key.TheVariants as key
+use Rattle.apex_words.specs.declared.key.Key.TheVariants as key
 use Rattle.apex_table.specs.Keys.{number_at, discipline_at}
 use Rattle.apex_table.specs.Mutexes.{mutex, mutexes}
 use Rattle.apex_table.proofs.Results.{ok_then}

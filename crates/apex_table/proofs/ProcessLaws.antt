@@ -5,8 +5,8 @@ use Rattle.toml.specs.Data.{Data, Members}
 use Rattle.apex_types.specs.declared.limits.TheConstants.{MOST_PRIORITY, MOST_STEPS}
 use Rattle.apex_types.specs.Name.{is_name}
 use Rattle.apex_machine.specs.table.Table.{IsSpan}
-use Rattle.apex_table.specs.declared.key.Key.TheVariants as key
-use Rattle.apex_table.specs.Subjects.{at_key, at_step}
+use Rattle.apex_words.specs.declared.key.Key.TheVariants as key
+use Rattle.apex_words.specs.Subjects.{at_key, at_step}
 use Rattle.apex_table.specs.Terms.{Place, Profile, Subject}
 use Rattle.apex_table.specs.Keys.{text, array_at, at_most, number_at, number_or, span_or_infinite, truth_or, deadline_or_soft}
 use Rattle.apex_table.specs.Processes.{ProcessDraft, some_process, texts, some_step, script_at, process, processes}

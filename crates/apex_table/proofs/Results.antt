@@ -4,7 +4,7 @@ use Rattle.std.specs.List.{AllByRecursion}
 use Rattle.std.proofs.lemmas.List.{append-nil, append_assoc, map-append}
 use Rattle.std.proofs.lemmas.Result.{IfOk-at_ok, IfOk-weaker}
 use Rattle.apex_table.specs.Terms.{TableFault}
-use Rattle.apex_table.specs.Outcome.{◌>>=◌, each}
+use Rattle.apex_words.specs.Outcome.{◌>>=◌, each}
 
 -- after a reading that gave x
 pub ok_then : {A B : Type 0} (r : Result A TableFault) (f : A → Result B TableFault) (P : B → Type 0) → ((x : A) → r ≡ Ok x → IfOk (f x) P) → IfOk (r >>= f) P

@@ -23,7 +23,7 @@ use Rattle.apex_calls.specs.declared.catalogue.Kind.TheVariants.{Process, Semaph
 use Rattle.apex_table.specs.Terms.{Kind, Origin, Place}
 use Rattle.apex_table.specs.DefaultInit.{bare, create}
 use Rattle.apex_table.specs.Names.{Names, names_in}
-use Rattle.apex_table.specs.Words.{words, is_empty}
+use Rattle.apex_words.specs.Words.{words, is_empty}
 use Rattle.apex_table.specs.Steps.{step, step_of, row_step, with_word}
 use Rattle.apex_table.proofs.Spelling.{number_model, true-false}
 use Rattle.apex_table.proofs.Slots.{and_true}

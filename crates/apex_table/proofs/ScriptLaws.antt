@@ -4,8 +4,8 @@ use Rattle.std.specs.List.{AllByRecursion}
 use Rattle.std.proofs.lemmas.Result.{IfOk-at_ok}
 use Rattle.apex_machine.specs.table.Table.{ProcessConfig, Table, IsLawfulProcess, IsLawfulStep, no_step}
 use Rattle.apex_types.specs.declared.calls.Origin.TheVariants.{Script}
-use Rattle.apex_table.specs.declared.fault.Section.TheVariants.{Process}
-use Rattle.apex_table.specs.Outcome.{place}
+use Rattle.apex_words.specs.declared.fault.Section.TheVariants.{Process}
+use Rattle.apex_words.specs.Outcome.{place}
 use Rattle.apex_table.specs.Names.{Names}
 use Rattle.apex_table.specs.Processes.{ProcessDraft, process_names}
 use Rattle.apex_table.specs.Scripts.{script, next_entry, with_scripts}

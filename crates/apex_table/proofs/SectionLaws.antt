@@ -9,9 +9,9 @@ use Rattle.std.proofs.lemmas.Result.{IfOk-at_ok, IfOk-weaker}
 use Rattle.toml.specs.Data.{Data, Members}
 use Rattle.apex_types.specs.Name.{is_name}
 use Rattle.apex_table.specs.Terms.{Place}
-use Rattle.apex_table.specs.declared.key.Key.TheVariants.{Entries}
-use Rattle.apex_table.specs.Subjects.{whole}
-use Rattle.apex_table.specs.Outcome.{each, place}
+use Rattle.apex_words.specs.declared.key.Key.TheVariants.{Entries}
+use Rattle.apex_words.specs.Subjects.{whole}
+use Rattle.apex_words.specs.Outcome.{each, place}
 use Rattle.apex_table.specs.Keys.{value_at, known, table, array, name_at}
 use Rattle.apex_table.specs.Sections.{SectionHead, EntryKind, tables, entry, next_entry, section}
 use Rattle.apex_table.proofs.Results.{ok_then, both_ok, each_keeps, each_length, all_push}

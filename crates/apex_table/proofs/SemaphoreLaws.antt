@@ -3,7 +3,7 @@ use Rattle.std.proofs.Common.{◌≤◌, refl}
 use Rattle.std.proofs.lemmas.Result.{IfOk-at_ok}
 use Rattle.apex_types.specs.declared.limits.TheConstants.{MOST_VALUE}
 use Rattle.apex_machine.specs.table.Table.{IsLawfulSemaphore}
-use Rattle.apex_table.specs.declared.key.Key.TheVariants as key
+use Rattle.apex_words.specs.declared.key.Key.TheVariants as key
 use Rattle.apex_table.specs.Keys.{number_at, discipline_at}
 use Rattle.apex_table.specs.Semaphores.{semaphore, semaphores}
 use Rattle.apex_table.proofs.Results.{ok_then}

@@ -13,11 +13,11 @@ use Rattle.apex_calls.specs.CallText.{timeout_text, mode_text, named_text}
 use Rattle.apex_calls.specs.declared.catalogue.Service.TheVariants.{SetPartitionMode}
 use Rattle.apex_calls.specs.declared.catalogue.Shape.TheVariants.{Entry, Named, Number, Timeout, Message, Mode}
 use Rattle.apex_table.specs.Terms.{Kind, Message as MessageOf, Named as NameOf, Origin, Place, RequestedMode, Service, Shape, Subject, TableFault, Timeout as TimeoutOf}
-use Rattle.apex_table.specs.declared.fault.TableFault.TheVariants.{BadName, BadStep}
-use Rattle.apex_table.specs.Outcome.{◌>>=◌}
+use Rattle.apex_words.specs.declared.fault.TableFault.TheVariants.{BadName, BadStep}
+use Rattle.apex_words.specs.Outcome.{◌>>=◌}
 use Rattle.apex_table.specs.Keys.{well_formed}
 use Rattle.apex_table.specs.Names.{Names, names_in}
-use Rattle.apex_table.specs.Words.{is_empty}
+use Rattle.apex_words.specs.Words.{is_empty}
 use Rattle.apex_table.specs.Steps.{Given, of_word, has_form, have_forms, with_entry, with_number, with_timeout, with_mode, with_name, with_message, with_word, with_words}
 use Rattle.apex_table.proofs.Spelling.{some_or_ok, made_ok, true-false, IsNumber, number_law, timeout_law, mode_law, message_law, IsPlaceOf, place_law, entry_law}
 

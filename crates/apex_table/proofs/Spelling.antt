@@ -17,9 +17,9 @@ use Rattle.apex_types.specs.declared.calls.RequestedMode.TheVariants.{Idle, Norm
 use Rattle.apex_types.specs.declared.calls.Timeout.TheVariants.{Poll, Ticks, Infinite}
 use Rattle.apex_calls.specs.CallText.{timeout_text, mode_text}
 use Rattle.apex_table.specs.Terms.{RequestedMode, Subject, TableFault, Timeout}
-use Rattle.apex_table.specs.declared.fault.TableFault.TheVariants.{OutOfRange, UnknownName}
-use Rattle.apex_table.specs.Outcome.{made, some_or}
-use Rattle.apex_table.specs.Words.{is_empty, is_digit, pairs_value, bytes_of, few_bytes, message_bytes, number, timeout, requested_mode, entry_of}
+use Rattle.apex_words.specs.declared.fault.TableFault.TheVariants.{OutOfRange, UnknownName}
+use Rattle.apex_words.specs.Outcome.{made, some_or}
+use Rattle.apex_words.specs.Words.{is_empty, is_digit, pairs_value, bytes_of, few_bytes, message_bytes, number, timeout, requested_mode, entry_of}
 
 -- what is read, and that it is
 pub some_or_ok : {A : Type 0} (fault : TableFault) (o : Option A) (x : A) → some_or fault o ≡ Ok x → o ≡ Some x

@@ -21,10 +21,10 @@ use Rattle.apex_calls.specs.declared.catalogue.Service.TheVariants as services
 use Rattle.apex_calls.specs.declared.catalogue.Shape.TheVariants.{Entry, Named, Number, Timeout, Message, Mode}
 use Rattle.apex_calls.proofs.Rows.{row_of_word_law}
 use Rattle.apex_table.specs.Terms.{Arguments, Kind, Named as NameOf, Origin, Place, Service, Shape, TableFault}
-use Rattle.apex_table.specs.declared.fault.TableFault.TheVariants.{BadStep}
-use Rattle.apex_table.specs.Outcome.{made, some_or}
+use Rattle.apex_words.specs.declared.fault.TableFault.TheVariants.{BadStep}
+use Rattle.apex_words.specs.Outcome.{made, some_or}
 use Rattle.apex_table.specs.Names.{Names, names_in}
-use Rattle.apex_table.specs.Words.{words}
+use Rattle.apex_words.specs.Words.{words}
 use Rattle.apex_table.specs.Steps.{Given, nothing, of_word, misfit, have_forms, with_words, step_with, row_step, step_of, step}
 use Rattle.apex_table.specs.Scripts.{script}
 use Rattle.apex_table.proofs.Results.{ok_then, AllFrom, all_any, each_from, each_length}

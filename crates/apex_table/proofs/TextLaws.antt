@@ -11,10 +11,10 @@ use Rattle.apex_types.specs.declared.calls.Origin.TheVariants as origin
 use Rattle.apex_calls.specs.CallText.{call_text, call_words, count_of, name_of, spaced}
 use Rattle.apex_calls.specs.declared.catalogue.Kind.TheVariants.{Process, Semaphore, Buffer, Blackboard, EventFlag, Mutex}
 use Rattle.apex_configs.proofs.KeptTexts.{name_anywhere}
-use Rattle.apex_table.specs.declared.fault.Section.TheVariants as sections
-use Rattle.apex_table.specs.declared.fault.TableFault.TheVariants.{BadInitStep}
+use Rattle.apex_words.specs.declared.fault.Section.TheVariants as sections
+use Rattle.apex_words.specs.declared.fault.TableFault.TheVariants.{BadInitStep}
 use Rattle.apex_table.specs.Terms.{Kind, Origin, Place, Profile, TableFault}
-use Rattle.apex_table.specs.Outcome.{place, Gives}
+use Rattle.apex_words.specs.Outcome.{place, Gives}
 use Rattle.apex_table.specs.Processes.{ProcessDraft, process_names}
 use Rattle.apex_configs.specs.Objects.{Objects}
 use Rattle.apex_table.specs.Names.{Names, names_in, names_of}

@@ -4,9 +4,9 @@ use Rattle.toml.specs.Data.{Members}
 use Rattle.apex_types.specs.declared.limits.TheConstants.{MOST_MESSAGE, MOST_OBJECTS}
 use Rattle.apex_machine.specs.table.Table.{BlackboardConfig}
 use Rattle.apex_table.specs.Terms.{Place, TableFault}
-use Rattle.apex_table.specs.declared.key.Key.TheVariants as key
-use Rattle.apex_table.specs.declared.fault.Section.TheVariants.{Blackboard}
-use Rattle.apex_table.specs.Outcome.{◌>>=◌}
+use Rattle.apex_words.specs.declared.key.Key.TheVariants as key
+use Rattle.apex_words.specs.declared.fault.Section.TheVariants.{Blackboard}
+use Rattle.apex_words.specs.Outcome.{◌>>=◌}
 use Rattle.apex_table.specs.Keys.{number_at}
 use Rattle.apex_table.specs.Sections.{EntryKind}
 

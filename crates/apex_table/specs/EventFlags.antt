@@ -4,8 +4,8 @@ use Rattle.toml.specs.Data.{Members}
 use Rattle.apex_types.specs.declared.limits.TheConstants.{MOST_OBJECTS}
 use Rattle.apex_machine.specs.table.Table.{EventFlagConfig}
 use Rattle.apex_table.specs.Terms.{Place, TableFault}
-use Rattle.apex_table.specs.declared.key.Key.TheVariants as key
-use Rattle.apex_table.specs.declared.fault.Section.TheVariants.{EventFlag}
+use Rattle.apex_words.specs.declared.key.Key.TheVariants as key
+use Rattle.apex_words.specs.declared.fault.Section.TheVariants.{EventFlag}
 use Rattle.apex_table.specs.Sections.{EntryKind}
 
 -- the names of event flags

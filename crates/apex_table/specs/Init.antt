@@ -7,10 +7,10 @@ use Rattle.apex_table.specs.Terms.{Call, Origin, Place, Subject, TableFault}
 use Rattle.apex_types.specs.declared.calls.Origin.TheVariants as origin
 use Rattle.apex_calls.specs.Catalogue.{row_of}
 use Rattle.apex_calls.specs.Parts.{parts_of}
-use Rattle.apex_table.specs.declared.fault.Section.TheVariants.{Init}
-use Rattle.apex_table.specs.declared.fault.TableFault.TheVariants.{BadInitStep}
-use Rattle.apex_table.specs.Subjects.{whole, at_step}
-use Rattle.apex_table.specs.Outcome.{◌>>=◌, each, place}
+use Rattle.apex_words.specs.declared.fault.Section.TheVariants.{Init}
+use Rattle.apex_words.specs.declared.fault.TableFault.TheVariants.{BadInitStep}
+use Rattle.apex_words.specs.Subjects.{whole, at_step}
+use Rattle.apex_words.specs.Outcome.{◌>>=◌, each, place}
 use Rattle.apex_table.specs.Keys.{text, array, at_most}
 use Rattle.apex_table.specs.Steps.{of_word, step}
 use Rattle.apex_configs.specs.Objects.{Objects}

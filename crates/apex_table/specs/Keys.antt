@@ -7,13 +7,13 @@ use Rattle.toml.specs.Data.{Data, Items, no_items, item, Members, no_members, me
 use Rattle.apex_types.specs.declared.limits.TheConstants.{MOST_SPAN}
 use Rattle.apex_types.specs.Name.{is_name}
 use Rattle.apex_table.specs.Terms.{DeadlineType, Discipline, Key, Place, Subject, TableFault}
-use Rattle.apex_table.specs.declared.key.Key.TheVariants as key
+use Rattle.apex_words.specs.declared.key.Key.TheVariants as key
 use Rattle.apex_types.specs.declared.modes.DeadlineType.TheVariants.{Soft, Hard}
 use Rattle.apex_types.specs.declared.modes.Discipline.TheVariants.{Fifo, Priority}
-use Rattle.apex_table.specs.declared.fault.TableFault.TheVariants.{MissingKey, WrongType, OutOfRange, BadName, DoubleName, UnknownKey, TooMany}
-use Rattle.apex_table.specs.Fault.{key_word}
-use Rattle.apex_table.specs.Subjects.{at_key, at_other_key}
-use Rattle.apex_table.specs.Outcome.{◌>>=◌, some_or}
+use Rattle.apex_words.specs.declared.fault.TableFault.TheVariants.{MissingKey, WrongType, OutOfRange, BadName, DoubleName, UnknownKey, TooMany}
+use Rattle.apex_words.specs.Fault.{key_word}
+use Rattle.apex_words.specs.Subjects.{at_key, at_other_key}
+use Rattle.apex_words.specs.Outcome.{◌>>=◌, some_or}
 
 -- TOML's items as a list
 abbrev pub list_of : Items → List Data

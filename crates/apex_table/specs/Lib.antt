@@ -1,7 +1,4 @@
 pub mod Terms
-pub mod Fault
-pub mod Subjects
-pub mod Outcome
 pub mod Keys
 pub mod Sections
 pub mod Processes
@@ -12,7 +9,6 @@ pub mod EventFlags
 pub mod Mutexes
 pub mod Objects
 pub mod Names
-pub mod Words
 pub mod Steps
 pub mod Scripts
 pub mod DefaultInit

@@ -3,7 +3,7 @@ use Rattle.std.specs.Prelude.{Result, Ok}
 use Rattle.toml.specs.Data.{Members}
 use Rattle.apex_configs.specs.Objects.{Objects}
 use Rattle.apex_table.specs.Terms.{TableFault}
-use Rattle.apex_table.specs.Outcome.{◌>>=◌}
+use Rattle.apex_words.specs.Outcome.{◌>>=◌}
 use Rattle.apex_table.specs.Sections.{section}
 use Rattle.apex_table.specs.Semaphores.{semaphores}
 use Rattle.apex_table.specs.Buffers.{buffers}

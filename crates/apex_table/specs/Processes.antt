@@ -3,12 +3,12 @@ use Rattle.std.specs.Prelude.{ℕ, ◌-◌, Bool, true, false, List, [], ◌∷�
 use Rattle.toml.specs.Data.{Data, Members}
 use Rattle.apex_types.specs.declared.limits.TheConstants.{MOST_PRIORITY, MOST_STEPS}
 use Rattle.apex_machine.specs.table.Profiles.{processes_of}
-use Rattle.apex_table.specs.declared.key.Key.TheVariants as key
-use Rattle.apex_table.specs.declared.fault.Section.TheVariants.{Process}
+use Rattle.apex_words.specs.declared.key.Key.TheVariants as key
+use Rattle.apex_words.specs.declared.fault.Section.TheVariants.{Process}
 use Rattle.apex_table.specs.Terms.{Attributes, Key, Place, Profile, Subject, TableFault}
-use Rattle.apex_table.specs.declared.fault.TableFault.TheVariants.{MissingKey, OutOfRange}
-use Rattle.apex_table.specs.Subjects.{whole, at_key, at_step}
-use Rattle.apex_table.specs.Outcome.{◌>>=◌, each, place}
+use Rattle.apex_words.specs.declared.fault.TableFault.TheVariants.{MissingKey, OutOfRange}
+use Rattle.apex_words.specs.Subjects.{whole, at_key, at_step}
+use Rattle.apex_words.specs.Outcome.{◌>>=◌, each, place}
 use Rattle.apex_table.specs.Keys.{text, array_at, at_most, number_at, number_or, span_or_infinite, truth_or, deadline_or_soft}
 use Rattle.apex_table.specs.Sections.{EntryKind}
 

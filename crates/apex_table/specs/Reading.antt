@@ -6,11 +6,11 @@ use Rattle.toml.specs.Parse.{parse_document}
 use Rattle.apex_types.specs.declared.limits.TheConstants.{MOST_CORES, MOST_ENTRIES, MOST_PROFILE, USUAL_ENTRIES}
 use Rattle.apex_machine.specs.table.Profiles.{profile_of}
 use Rattle.apex_machine.specs.table.Table.{ProcessConfig, Step, Table}
-use Rattle.apex_table.specs.declared.fault.Section.TheVariants.{Top, Process, Semaphore, Buffer, Blackboard, EventFlag, Mutex, Init}
-use Rattle.apex_table.specs.declared.key.Key.TheVariants as key
+use Rattle.apex_words.specs.declared.fault.Section.TheVariants.{Top, Process, Semaphore, Buffer, Blackboard, EventFlag, Mutex, Init}
+use Rattle.apex_words.specs.declared.key.Key.TheVariants as key
 use Rattle.apex_table.specs.Terms.{Key, Profile, TableFault}
-use Rattle.apex_table.specs.declared.fault.TableFault.TheVariants.{NotToml}
-use Rattle.apex_table.specs.Outcome.{◌>>=◌, some_or, place}
+use Rattle.apex_words.specs.declared.fault.TableFault.TheVariants.{NotToml}
+use Rattle.apex_words.specs.Outcome.{◌>>=◌, some_or, place}
 use Rattle.apex_table.specs.Keys.{known, number_at, number_or, value_at}
 use Rattle.apex_table.specs.Sections.{section}
 use Rattle.apex_table.specs.Processes.{ProcessDraft, some_process, processes}

@@ -2,9 +2,9 @@
 use Rattle.std.specs.Prelude.{ℕ, ◌+◌, List, [], length, Result, Ok}
 use Rattle.apex_machine.specs.table.Table.{ProcessConfig, Step}
 use Rattle.apex_types.specs.declared.calls.Origin.TheVariants.{Script}
-use Rattle.apex_table.specs.declared.fault.Section.TheVariants.{Process}
+use Rattle.apex_words.specs.declared.fault.Section.TheVariants.{Process}
 use Rattle.apex_table.specs.Terms.{Place, TableFault}
-use Rattle.apex_table.specs.Outcome.{◌>>=◌, each, place}
+use Rattle.apex_words.specs.Outcome.{◌>>=◌, each, place}
 use Rattle.apex_table.specs.Names.{Names}
 use Rattle.apex_table.specs.Steps.{step}
 use Rattle.apex_table.specs.Processes.{ProcessDraft}

@@ -1,12 +1,12 @@
 -- A section of the table: the entries of one kind, which differ in their names.
 use Rattle.std.specs.Prelude.{ℕ, ◌+◌, List, [], length, map, Option, Result}
 use Rattle.toml.specs.Data.{Data, Members}
-use Rattle.apex_table.specs.declared.fault.Section.{Section}
+use Rattle.apex_words.specs.declared.fault.Section.{Section}
 use Rattle.apex_table.specs.Terms.{Key, Place, TableFault}
 use Rattle.apex_table.specs.declared.sections.Head.{Head}
-use Rattle.apex_table.specs.declared.key.Key.TheVariants.{Entries}
-use Rattle.apex_table.specs.Subjects.{whole}
-use Rattle.apex_table.specs.Outcome.{◌>>=◌, each, place}
+use Rattle.apex_words.specs.declared.key.Key.TheVariants.{Entries}
+use Rattle.apex_words.specs.Subjects.{whole}
+use Rattle.apex_words.specs.Outcome.{◌>>=◌, each, place}
 use Rattle.apex_table.specs.Keys.{optional, value_at, known, table, array, at_most, name_at}
 
 -- a section, the most entries that it may have, and the keys of one

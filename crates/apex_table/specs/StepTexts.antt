@@ -3,9 +3,9 @@ use Rattle.std.specs.Prelude.{◌≡◌, ℕ, ◌+◌, ◌<◌, List, length, ma
 use Rattle.apex_machine.specs.table.Table.{Table, Step, ProcessConfig, SemaphoreConfig, BufferConfig, BlackboardConfig, EventFlagConfig, MutexConfig, process_config, step_at}
 use Rattle.apex_types.specs.declared.calls.Origin.TheVariants as origin
 use Rattle.apex_calls.specs.CallText.{call_text}
-use Rattle.apex_table.specs.declared.fault.Section.TheVariants.{Process, Init}
+use Rattle.apex_words.specs.declared.fault.Section.TheVariants.{Process, Init}
 use Rattle.apex_table.specs.Terms.{Origin, Place}
-use Rattle.apex_table.specs.Outcome.{place}
+use Rattle.apex_words.specs.Outcome.{place}
 use Rattle.apex_table.specs.Names.{Names}
 use Rattle.apex_table.specs.Steps.{step}
 

@@ -10,12 +10,12 @@ use Rattle.apex_calls.specs.Catalogue.{Row, rows, row_in}
 use Rattle.apex_calls.specs.Parts.{none, call_of}
 use Rattle.apex_calls.specs.declared.catalogue.Shape.TheVariants.{Entry, Named, Number, Timeout, Message, Mode}
 use Rattle.apex_table.specs.Terms.{Arguments, Origin, Place, RequestedMode, Shape, Subject, TableFault, Timeout as TimeoutOf}
-use Rattle.apex_table.specs.declared.fault.TableFault.TheVariants.{BadStep}
-use Rattle.apex_table.specs.Subjects.{at_step, at_word}
-use Rattle.apex_table.specs.Outcome.{◌>>=◌, made, some_or}
+use Rattle.apex_words.specs.declared.fault.TableFault.TheVariants.{BadStep}
+use Rattle.apex_words.specs.Subjects.{at_step, at_word}
+use Rattle.apex_words.specs.Outcome.{◌>>=◌, made, some_or}
 use Rattle.apex_table.specs.Keys.{well_formed}
 use Rattle.apex_table.specs.Names.{Names, names_in}
-use Rattle.apex_table.specs.Words.{words, is_empty, is_number, is_timeout, is_message, number, timeout, message_bytes, requested_mode, entry_of}
+use Rattle.apex_words.specs.Words.{words, is_empty, is_number, is_timeout, is_message, number, timeout, message_bytes, requested_mode, entry_of}
 
 -- the place of the step of this origin in its script, or in the init list, counted from 0
 abbrev pub step_place : Origin → ℕ

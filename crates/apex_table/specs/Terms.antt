@@ -4,10 +4,10 @@ pub use Rattle.apex_calls.specs.declared.Arguments.{Arguments}
 pub use Rattle.apex_calls.specs.declared.Kind.{Kind}
 pub use Rattle.apex_calls.specs.declared.Service.{Service}
 pub use Rattle.apex_calls.specs.declared.Shape.{Shape}
-pub use Rattle.apex_table.specs.declared.fault.Place.{Place}
-pub use Rattle.apex_table.specs.declared.fault.TableFault.{TableFault}
-pub use Rattle.apex_table.specs.declared.key.Key.{Key}
-pub use Rattle.apex_table.specs.declared.subject.Subject.{Subject}
+pub use Rattle.apex_words.specs.declared.fault.Place.{Place}
+pub use Rattle.apex_words.specs.declared.fault.TableFault.{TableFault}
+pub use Rattle.apex_words.specs.declared.key.Key.{Key}
+pub use Rattle.apex_words.specs.declared.subject.Subject.{Subject}
 pub use Rattle.apex_machine.specs.declared.records.Attributes.{Attributes}
 pub use Rattle.apex_types.specs.declared.calls.Call.{Call}
 pub use Rattle.apex_types.specs.declared.modes.DeadlineType.{DeadlineType}

@@ -1,13 +1,12 @@
 //! The section of buffers.
 ghost use Rattle.apex_table.specs.Buffers.{buffers};
 
-use crate::fault::{Place, Section, TableFault};
-use crate::key::Key;
 use crate::keys;
 use crate::named::Named;
 use crate::sections::{EntryKind, Head};
 use apex_configs::BufferConfig;
 use apex_types::{MOST_MESSAGE, MOST_MESSAGES, MOST_OBJECTS, Name};
+use apex_words::{Key, Place, Section, TableFault};
 use std::alloc::Global;
 use toml::Table;
 

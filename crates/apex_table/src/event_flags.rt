@@ -1,12 +1,11 @@
 //! The section of event flags.
 ghost use Rattle.apex_table.specs.EventFlags.{event_flags};
 
-use crate::fault::{Place, Section, TableFault};
-use crate::key::Key;
 use crate::named::Named;
 use crate::sections::{EntryKind, Head};
 use apex_configs::EventFlagConfig;
 use apex_types::{MOST_OBJECTS, Name};
+use apex_words::{Key, Place, Section, TableFault};
 use std::alloc::Global;
 use toml::Table;
 

@@ -2,11 +2,10 @@
 ghost use Rattle.std.specs.Prelude.{◌≡◌, ◌<◌, ◌≤◌, map, length, option_map, IfOk, IfSome};
 ghost use Rattle.apex_types.specs.declared.limits.TheConstants.{MOST_INIT_STEPS, MOST_PROCESSES};
 ghost use Rattle.toml.specs.View.{view};
-ghost use Rattle.apex_table.specs.Outcome.{Gives};
+ghost use Rattle.apex_words.specs.Outcome.{Gives};
 ghost use Rattle.apex_table.specs.Init.{next_text, texts, given_texts, init_texts, is_init_call, init_step, next_init_step, init_steps, init_list};
 
 use crate::default_init::default_init;
-use crate::fault::{Place, Section, TableFault};
 use crate::keys;
 use crate::names::Names;
 use crate::steps::{of_word, step};
@@ -14,6 +13,7 @@ use apex_calls::{parts_of, row_of};
 use apex_configs::{Objects, ProcessConfig};
 use apex_machine::Step;
 use apex_types::{Call, MOST_INIT_STEPS, Origin};
+use apex_words::{Place, Section, TableFault};
 use std::alloc::Global;
 use toml::Value;
 

@@ -1,14 +1,12 @@
 //! One key of TOML's tree, and its type.
 ghost use Rattle.std.specs.Prelude.{◌≡◌, ◌≤◌, map, length, option_map, IfOk};
 ghost use Rattle.toml.specs.View.{view, table_view};
-ghost use Rattle.apex_table.specs.Outcome.{Gives};
+ghost use Rattle.apex_words.specs.Outcome.{Gives};
 ghost use Rattle.apex_table.specs.Keys.{is_one_of, other_key, known, value_at, required, text, truth, table, array, array_at, at_most, number, number_at, number_or, span, span_or_infinite, truth_or, text_at, deadline_type, deadline, deadline_or_soft, discipline, discipline_at, well_formed, name_at};
 
-use crate::fault::{Place, TableFault};
-use crate::key::Key;
 use crate::named::{Named, has_name};
-use crate::subject::Subject;
 use apex_types::{DeadlineType, Discipline, MOST_SPAN, Name, Span};
+use apex_words::{Key, Place, Subject, TableFault};
 use toml::{Table, Value};
 
 fn is_one_of(keys: &[Key], name: &str) -> bool

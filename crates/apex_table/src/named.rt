@@ -1,6 +1,6 @@
 //! The entry of a section that has a name.
-ghost use Rattle.std.specs.Prelude.{ℕ, List, ◌≡◌, ◌<◌, map, length, IfSome};
-ghost use Rattle.std.specs.List.{list_any, position_from};
+ghost use Rattle.std.specs.Prelude.{ℕ, List, ◌≡◌, map};
+ghost use Rattle.std.specs.List.{list_any};
 ghost use Rattle.std.specs.Str.{bytes_eq};
 
 use apex_types::Name;
@@ -23,17 +23,4 @@ pub fn has_name<T: Named>(entries: &[T], name: &[u8]) -> bool
         }
     }
     false
-}
-
-/// The place, counted from 0, of the first of these names that is this one.
-pub fn place_of(names: &[Name], name: &[u8]) -> Option<usize>
-    ensures found { result ≡ position_from (bytes_eq name.now) 0 names.now }
-    ensures bound { IfSome result (λ i. i < length names.now) }
-{
-    for (i, other) in names.iter().enumerate() {
-        if name == other.as_bytes() {
-            return Some(i);
-        }
-    }
-    None
 }

@@ -1,16 +1,16 @@
 //! The sections of objects.
 ghost use Rattle.toml.specs.View.{table_view};
-ghost use Rattle.apex_table.specs.Outcome.{Gives};
+ghost use Rattle.apex_words.specs.Outcome.{Gives};
 ghost use Rattle.apex_table.specs.Objects.{objects};
 
 use crate::blackboards::Blackboards;
 use crate::buffers::Buffers;
 use crate::event_flags::EventFlags;
-use crate::fault::TableFault;
 use crate::mutexes::Mutexes;
 use crate::sections::read_section;
 use crate::semaphores::Semaphores;
 use apex_configs::Objects;
+use apex_words::TableFault;
 use std::alloc::Global;
 
 /// Reads the sections of objects, from the top of the table.

@@ -2,18 +2,16 @@
 ghost use Rattle.std.specs.Prelude.{◌≡◌, ◌≤◌, map, length, IfOk};
 ghost use Rattle.apex_types.specs.declared.limits.TheConstants.{MOST_CORES, MOST_INIT_STEPS, MOST_STEPS};
 ghost use Rattle.toml.specs.View.{view, table_view};
-ghost use Rattle.apex_table.specs.Outcome.{Gives};
+ghost use Rattle.apex_words.specs.Outcome.{Gives};
 ghost use Rattle.apex_table.specs.Sections.{head_of};
 ghost use Rattle.apex_table.specs.Processes.{some_process, texts, some_step, script_at, processes};
 
-use crate::fault::{Place, Section, TableFault};
-use crate::key::Key;
 use crate::keys;
 use crate::named::Named;
 use crate::sections::{EntryKind, Head};
-use crate::subject::Subject;
 use apex_machine::{Attributes, Profile};
 use apex_types::{CoreId, MOST_PRIORITY, MOST_STEPS, Name};
+use apex_words::{Key, Place, Section, Subject, TableFault};
 use std::alloc::Global;
 use std::marker::Model;
 use toml::{Table, Value};

@@ -2,13 +2,11 @@
 ghost use Rattle.std.specs.Prelude.{◌≤◌, length, IfOk, IfSome};
 ghost use Rattle.apex_types.specs.declared.limits.TheConstants.{MOST_INIT_STEPS, MOST_PROCESSES};
 ghost use Rattle.toml.specs.View.{table_view};
-ghost use Rattle.apex_table.specs.Outcome.{Gives};
+ghost use Rattle.apex_words.specs.Outcome.{Gives};
 ghost use Rattle.apex_table.specs.Reading.{IsRead, draft, with_steps, document, table_of};
 ghost use Rattle.apex_table.specs.StepTexts.{HaveTexts};
 
-use crate::fault::{Place, Section, TableFault};
 use crate::init::{init_list, init_texts};
-use crate::key::Key;
 use crate::keys;
 use crate::names::Names;
 use crate::objects::read_objects;
@@ -19,6 +17,7 @@ use crate::texts::script_texts;
 use apex_configs::{Objects, Table};
 use apex_machine::Profile;
 use apex_types::{MOST_CORES, MOST_ENTRIES, MOST_PROFILE, USUAL_ENTRIES};
+use apex_words::{Key, Place, Section, TableFault};
 use std::alloc::Global;
 use std::marker::Model;
 

@@ -1,16 +1,16 @@
 //! The scripts of a table's processes.
 ghost use Rattle.std.specs.Prelude.{◌≡◌, ◌<◌, ◌≤◌, map, length, IfOk};
 ghost use Rattle.apex_types.specs.declared.limits.TheConstants.{MOST_PROCESSES, MOST_STEPS};
-ghost use Rattle.apex_table.specs.Outcome.{Gives};
+ghost use Rattle.apex_words.specs.Outcome.{Gives};
 ghost use Rattle.apex_table.specs.Scripts.{script, next_entry, with_scripts};
 
-use crate::fault::{Place, Section, TableFault};
 use crate::names::Names;
 use crate::processes::Draft;
 use crate::steps::step;
 use apex_configs::ProcessConfig;
 use apex_machine::Step;
 use apex_types::{Origin, ProcessId};
+use apex_words::{Place, Section, TableFault};
 use std::alloc::Global;
 
 fn script(

@@ -3,14 +3,13 @@ ghost use Rattle.std.specs.Prelude.{◌≡◌, ◌<◌, ◌≤◌, ℕ, List, le
 ghost use Rattle.apex_types.specs.declared.limits.TheConstants.{MOST_INIT_STEPS};
 ghost use Rattle.toml.specs.Data.{Members};
 ghost use Rattle.toml.specs.View.{view, table_view};
-ghost use Rattle.apex_table.specs.Outcome.{Gives};
+ghost use Rattle.apex_words.specs.Outcome.{Gives};
 ghost use Rattle.apex_table.specs.Sections.{SectionHead, head_of, kind_of, tables, next_entry, section};
 
-use crate::fault::{Place, Section, TableFault};
-use crate::key::Key;
 use crate::keys;
 use crate::named::Named;
 use apex_types::Name;
+use apex_words::{Key, Place, Section, TableFault};
 use std::alloc::Global;
 use toml::{Table, Value};
 
@@ -24,8 +23,8 @@ pub struct Head<'k> {
 
 /// A kind of entries.
 pub trait EntryKind<'a> {
-    ghost use Rattle.apex_table.specs.declared.fault.Place.{Place};
-    ghost use Rattle.apex_table.specs.declared.fault.TableFault.{TableFault};
+    ghost use Rattle.apex_words.specs.declared.fault.Place.{Place};
+    ghost use Rattle.apex_words.specs.declared.fault.TableFault.{TableFault};
 
     type Entry: Named + Drop;
 

@@ -1,13 +1,12 @@
 //! The section of semaphores.
 ghost use Rattle.apex_table.specs.Semaphores.{semaphores};
 
-use crate::fault::{Place, Section, TableFault};
-use crate::key::Key;
 use crate::keys;
 use crate::named::Named;
 use crate::sections::{EntryKind, Head};
 use apex_configs::SemaphoreConfig;
 use apex_types::{MOST_OBJECTS, MOST_VALUE, Name};
+use apex_words::{Key, Place, Section, TableFault};
 use std::alloc::Global;
 use toml::Table;
 

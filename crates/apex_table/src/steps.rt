@@ -1,21 +1,20 @@
 //! A step by its text.
 ghost use Rattle.std.specs.Prelude.{◌≡◌, map};
 ghost use Rattle.apex_calls.specs.Catalogue.{IsRow, view};
-ghost use Rattle.apex_table.specs.Outcome.{Gives};
+ghost use Rattle.apex_words.specs.Outcome.{Gives};
 ghost use Rattle.apex_table.specs.Steps.{step_place, of_step, of_word, has_form, have_forms, ill_formed, misfit, nothing, row_step, step_of, step, with_words};
 
 mod given;
-mod words;
 
-use crate::fault::{Place, TableFault};
 use crate::names::Names;
-use crate::subject::Subject;
 use apex_calls::{Row, Shape, call_of, row_of_word};
 use apex_machine::Step;
 use apex_types::Origin;
+use apex_words::{
+    Place, Subject, TableFault, is_message, is_number, is_timeout, requested_mode, words,
+};
 use given::{Given, with_word};
 use std::alloc::Global;
-use words::{is_message, is_number, is_timeout, requested_mode, words};
 
 /// The place of the step of this origin in its script, or in the init list, counted from 0.
 fn step_place(origin: &Origin) -> usize

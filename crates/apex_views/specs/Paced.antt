@@ -3,7 +3,7 @@ use Rattle.std.specs.Prelude.{ℕ, ◌+◌, List, Result, Ok, Err}
 use Rattle.apex_machine.specs.Machine.{opening, run}
 use Rattle.apex_machine.specs.table.Table as tables
 use Rattle.apex_table.specs.Reading.{table_of}
-use Rattle.apex_table.specs.declared.TableFault.{TableFault}
+use Rattle.apex_words.specs.declared.TableFault.{TableFault}
 use Rattle.apex_types.specs.declared.entries.Event.{Event}
 use Rattle.apex_pace.specs.First.{first_schedule, rounds}
 use Rattle.apex_pace.specs.Pace.{paced_opening}

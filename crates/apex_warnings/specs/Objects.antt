@@ -7,7 +7,7 @@ use Rattle.apex_warnings.specs.declared.acts.Act.TheVariants as act
 use Rattle.apex_warnings.specs.declared.objects.Group.TheVariants.{Semaphores, Buffers, Blackboards, EventFlags, Mutexes}
 use Rattle.apex_machine.specs.declared.records.Queue.TheVariants as queues
 use Rattle.apex_machine.specs.table.Table.{Table}
-use Rattle.apex_table.specs.declared.fault.Section.TheVariants as section
+use Rattle.apex_words.specs.declared.fault.Section.TheVariants as section
 
 -- the number of objects of a kind
 abbrev pub group_count : Table → Group → ℕ

@@ -7,7 +7,7 @@ pub use Rattle.apex_types.specs.declared.calls.Timeout.{Timeout}
 pub use Rattle.apex_machine.specs.declared.holdings.Holding.{Holding}
 pub use Rattle.apex_machine.specs.declared.records.Attributes.{Attributes}
 pub use Rattle.apex_machine.specs.declared.records.Queue.{Queue}
-pub use Rattle.apex_table.specs.declared.fault.Section.{Section}
+pub use Rattle.apex_words.specs.declared.fault.Section.{Section}
 pub use Rattle.apex_warnings.specs.declared.acts.Act.{Act}
 pub use Rattle.apex_warnings.specs.declared.objects.Group.{Group}
 pub use Rattle.apex_warnings.specs.declared.process_warnings.ProcessWarning.{ProcessWarning}

@@ -5,8 +5,8 @@ ghost use Rattle.apex_warnings.specs.Objects.{group_count, group_queue, group_se
 
 use apex_configs::Table;
 use apex_machine::Queue;
-use apex_table::Section;
 use apex_types::{BlackboardId, BufferId, EventId, MutexId, SemaphoreId};
+use apex_words::Section;
 
 /// The objects of one kind.
 #[derive(Clone, Copy, Debug, PartialEq, Eq)]

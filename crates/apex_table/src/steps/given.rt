@@ -1,18 +1,16 @@
 //! The values of the words of a step, one after the other.
 ghost use Rattle.std.specs.Prelude.{◌≡◌};
-ghost use Rattle.apex_table.specs.Outcome.{Gives};
+ghost use Rattle.apex_words.specs.Outcome.{Gives};
 ghost use Rattle.apex_table.specs.Steps.{nothing, with_entry, with_message, with_mode, with_name, with_number, with_timeout, with_word};
 
-use crate::fault::TableFault;
 use crate::keys::well_formed;
 use crate::names::Names;
-use crate::steps::words::{
-    entry_of, message_bytes, number, place_of_name, requested_mode, timeout,
-};
-use crate::subject::Subject;
 use apex_calls::{Arguments, Shape};
 use apex_machine::Literal;
 use apex_types::{Message, Name, Named, Origin, RequestedMode, Timeout};
+use apex_words::{
+    Subject, TableFault, entry_of, message_bytes, number, place_of_name, requested_mode, timeout,
+};
 use std::marker::Model;
 
 /// The values of the words so far: the arguments of the call, and the literal of the step.

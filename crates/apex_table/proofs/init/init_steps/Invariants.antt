@@ -1,5 +1,5 @@
 use Rattle.std.proofs.Common.{◌≡◌, map, drop, length}
-use Rattle.apex_table.specs.Outcome.{each}
+use Rattle.apex_words.specs.Outcome.{each}
 use Rattle.apex_table.specs.Init.{next_init_step, init_steps}
 use Rattle.apex_table.proofs.init.init_steps.Given as goal
 

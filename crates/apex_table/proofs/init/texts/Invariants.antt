@@ -1,6 +1,6 @@
 use Rattle.std.proofs.Common.{◌≡◌, map, drop, length}
 use Rattle.toml.specs.View.{view}
-use Rattle.apex_table.specs.Outcome.{each}
+use Rattle.apex_words.specs.Outcome.{each}
 use Rattle.apex_table.specs.Init.{next_text, texts}
 use Rattle.apex_table.proofs.init.texts.Given as goal
 

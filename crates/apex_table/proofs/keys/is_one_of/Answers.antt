@@ -2,7 +2,7 @@ use Rattle.std.proofs.Common.{rules, tests}
 use Rattle.std.specs.Str.{bytes_eq}
 use Rattle.std.proofs.lemmas.Iterator.{YieldsList-from_slice}
 use Rattle.std.proofs.lemmas.Iterator.Search.{any_from_yields_List}
-use Rattle.apex_table.specs.Fault.{key_word}
+use Rattle.apex_words.specs.Fault.{key_word}
 use Rattle.apex_table.proofs.keys.is_one_of.Goals as goal
 
 pub returns : goal.returns

@@ -1,7 +1,7 @@
 use Rattle.std.proofs.Common.{◌≡◌, map, drop, length}
 use Rattle.toml.specs.View.{view}
-use Rattle.apex_table.specs.Outcome.{each}
-use Rattle.apex_table.specs.Subjects.{at_step}
+use Rattle.apex_words.specs.Outcome.{each}
+use Rattle.apex_words.specs.Subjects.{at_step}
 use Rattle.apex_table.specs.Keys.{text}
 use Rattle.apex_table.specs.Processes.{texts}
 use Rattle.apex_table.proofs.processes.texts.Given as goal

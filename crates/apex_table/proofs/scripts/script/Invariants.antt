@@ -1,6 +1,6 @@
 use Rattle.std.proofs.Common.{◌≡◌, map, drop, length}
 use Rattle.apex_types.specs.declared.calls.Origin.TheVariants.{Script}
-use Rattle.apex_table.specs.Outcome.{each}
+use Rattle.apex_words.specs.Outcome.{each}
 use Rattle.apex_table.specs.Steps.{step}
 use Rattle.apex_table.specs.Scripts.{script}
 use Rattle.apex_table.proofs.scripts.script.Given as goal

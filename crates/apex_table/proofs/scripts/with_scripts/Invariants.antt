@@ -1,5 +1,5 @@
 use Rattle.std.proofs.Common.{◌≡◌, drop, length}
-use Rattle.apex_table.specs.Outcome.{each}
+use Rattle.apex_words.specs.Outcome.{each}
 use Rattle.apex_table.specs.Scripts.{next_entry, with_scripts}
 use Rattle.apex_table.proofs.scripts.with_scripts.Given as goal
 

@@ -1,6 +1,6 @@
 use Rattle.std.proofs.Common.{◌≡◌, [], map, drop, length}
 use Rattle.toml.specs.View.{view}
-use Rattle.apex_table.specs.Outcome.{each}
+use Rattle.apex_words.specs.Outcome.{each}
 use Rattle.apex_table.specs.Sections.{head_of, kind_of, next_entry}
 use Rattle.apex_table.proofs.sections.read_section.Given as goal
 

@@ -5,12 +5,12 @@ use Rattle.std.specs.Char.{digit_value, is_ascii_digit}
 use Rattle.std.specs.List.{list_all, slice_split, position_from}
 use Rattle.std.specs.Str.{bytes_eq}
 use Rattle.apex_types.specs.declared.limits.TheConstants.{MOST_MESSAGE, MOST_SPAN}
-use Rattle.apex_table.specs.Terms.{RequestedMode, Subject, TableFault, Timeout}
+use Rattle.apex_words.specs.Terms.{RequestedMode, Subject, TableFault, Timeout}
 use Rattle.apex_types.specs.declared.calls.RequestedMode.TheVariants.{Idle, Normal}
 use Rattle.apex_types.specs.declared.calls.Timeout.TheVariants.{Poll, Ticks, Infinite}
 use Rattle.apex_types.specs.Numbers.{number_of, at_least, at_most}
-use Rattle.apex_table.specs.declared.fault.TableFault.TheVariants.{OutOfRange, UnknownName}
-use Rattle.apex_table.specs.Outcome.{made, some_or}
+use Rattle.apex_words.specs.declared.fault.TableFault.TheVariants.{OutOfRange, UnknownName}
+use Rattle.apex_words.specs.Outcome.{made, some_or}
 
 -- the parts between single spaces, which may be empty
 abbrev pub words : List ℕ → List (List ℕ)

@@ -1,7 +1,7 @@
 -- What a fault is about: a place of the table's text, and the part of it that is at fault.
 use Rattle.std.specs.Prelude.{ℕ}
-use Rattle.apex_table.specs.declared.subject.Part.TheVariants.{Whole, Key as KeyOf, OtherKey, Step, Word}
-use Rattle.apex_table.specs.Terms.{Key, Place, Subject}
+use Rattle.apex_words.specs.declared.subject.Part.TheVariants.{Whole, Key as KeyOf, OtherKey, Step, Word}
+use Rattle.apex_words.specs.Terms.{Key, Place, Subject}
 
 -- the section or the entry as a whole
 abbrev pub whole : Place → Subject

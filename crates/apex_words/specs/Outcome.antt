@@ -1,8 +1,8 @@
 -- Readings one after the other, and the calls that give a reading's answer.
 use Rattle.std.specs.Prelude.{◌≡◌, ℕ, Option, Some, None, Result, Ok, Err, List, [], ◌∷◌, ◌++◌}
-use Rattle.apex_table.specs.declared.fault.Section.{Section}
-use Rattle.apex_table.specs.Terms.{Place, TableFault}
-use Rattle.apex_table.specs.declared.fault.TableFault.TheVariants.{Memory}
+use Rattle.apex_words.specs.declared.fault.Section.{Section}
+use Rattle.apex_words.specs.Terms.{Place, TableFault}
+use Rattle.apex_words.specs.declared.fault.TableFault.TheVariants.{Memory}
 
 infixl 10 ◌>>=◌
 -- the first fault ends a reading

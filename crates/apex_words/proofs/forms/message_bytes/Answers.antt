@@ -1,6 +1,6 @@
 use Rattle.std.proofs.Common.{sym, arith, rules}
-use Rattle.apex_table.proofs.Messages.{too_many_bytes}
-use Rattle.apex_table.proofs.steps.words.message_bytes.Goals as goal
+use Rattle.apex_words.proofs.Messages.{too_many_bytes}
+use Rattle.apex_words.proofs.forms.message_bytes.Goals as goal
 
 pub returns-then-digits-gt-MOST_MESSAGE : goal.returns-then-digits-gt-MOST_MESSAGE
 returns-then-digits-gt-MOST_MESSAGE c =

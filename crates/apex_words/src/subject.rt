@@ -1,6 +1,6 @@
 //! What a fault is about.
 ghost use Rattle.std.specs.Prelude.{◌≡◌};
-ghost use Rattle.apex_table.specs.Subjects.{whole, at_key, at_other_key, at_step, at_word};
+ghost use Rattle.apex_words.specs.Subjects.{whole, at_key, at_other_key, at_step, at_word};
 
 use crate::fault::Place;
 use crate::key::Key;
@@ -31,7 +31,7 @@ pub struct Subject {
 
 impl Place {
     /// The section or the entry as a whole.
-    pub(crate) fn whole(self) -> Subject
+    pub fn whole(self) -> Subject
         ensures { result ≡ whole self }
     {
         Subject {
@@ -41,7 +41,7 @@ impl Place {
     }
 
     /// A key here.
-    pub(crate) fn key(self, key: Key) -> Subject
+    pub fn key(self, key: Key) -> Subject
         ensures { result ≡ at_key self key }
     {
         Subject {
@@ -51,7 +51,7 @@ impl Place {
     }
 
     /// The key at this place among those here, which the section does not have.
-    pub(crate) fn other_key(self, place: usize) -> Subject
+    pub fn other_key(self, place: usize) -> Subject
         ensures { result ≡ at_other_key self place }
     {
         Subject {
@@ -61,7 +61,7 @@ impl Place {
     }
 
     /// The step at this place here, as a whole.
-    pub(crate) fn step(self, step: usize) -> Subject
+    pub fn step(self, step: usize) -> Subject
         ensures { result ≡ at_step self step }
     {
         Subject {
@@ -71,7 +71,7 @@ impl Place {
     }
 
     /// A word of the step at this place here.
-    pub(crate) fn word(self, step: usize, word: usize) -> Subject
+    pub fn word(self, step: usize, word: usize) -> Subject
         ensures { result ≡ at_word self step word }
     {
         Subject {

@@ -1,7 +1,7 @@
 use Rattle.std.proofs.Common.{lit<}
 use Rattle.std.proofs.lemmas.Iterator.Consumers.{map_from_collect}
 use Rattle.std.proofs.lemmas.Iterator.Splits.{YieldsList-from_str_split}
-use Rattle.apex_table.proofs.steps.words.words.Goals as goal
+use Rattle.apex_words.proofs.forms.words.Goals as goal
 
 pub returns : goal.returns
 returns c =

@@ -1,6 +1,6 @@
 //! The keys of a table.
 ghost use Rattle.std.specs.Prelude.{◌≡◌};
-ghost use Rattle.apex_table.specs.Fault.{key_word};
+ghost use Rattle.apex_words.specs.Fault.{key_word};
 
 use crate::fault::Section;
 

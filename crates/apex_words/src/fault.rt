@@ -1,9 +1,9 @@
 //! The faults of a table's text, and their places.
 ghost use Rattle.std.specs.Prelude.{◌≡◌, ◌+◌, ◌<◌, ◌≤◌, length, Some};
 ghost use Rattle.apex_types.specs.declared.limits.TheConstants.{MOST_INIT_STEPS};
-ghost use Rattle.apex_table.specs.Fault.{section_word, place_text, parts_of, fault_text};
-ghost use Rattle.apex_table.specs.Outcome.{place};
-ghost use Rattle.apex_table.specs.declared.fault.TableFault.TheVariants.{Memory};
+ghost use Rattle.apex_words.specs.Fault.{section_word, place_text, parts_of, fault_text};
+ghost use Rattle.apex_words.specs.Outcome.{place};
+ghost use Rattle.apex_words.specs.declared.fault.TableFault.TheVariants.{Memory};
 
 use crate::subject::Subject;
 use std::alloc::{AllocError, AllocFailed};
@@ -69,14 +69,14 @@ impl fmt::Display for Place {
 
 impl Place {
     /// The section as a whole.
-    pub(crate) fn of(section: Section) -> Place
+    pub fn of(section: Section) -> Place
         ensures { result ≡ place section 0 }
     {
         Place { section, number: 0 }
     }
 
     /// The entry after the first `count` ones of the section.
-    pub(crate) fn next(section: Section, count: usize) -> Place
+    pub fn next(section: Section, count: usize) -> Place
         requires { count < MOST_INIT_STEPS }
         ensures { result ≡ place section (count + 1) }
     {

@@ -1,13 +1,12 @@
 //! The words of a step, and the forms that they may have.
-ghost use Rattle.std.specs.Prelude.{ℕ, ◌≡◌, ◌<◌, ◌≤◌, ◌/◌, ◌%◌, ◌==◌, ◌&&◌, true, map, length, IfOk};
+ghost use Rattle.std.specs.Prelude.{ℕ, ◌≡◌, ◌<◌, ◌≤◌, ◌/◌, ◌%◌, ◌==◌, ◌&&◌, true, map, length, IfOk, IfSome};
 ghost use Rattle.apex_types.specs.declared.limits.TheConstants.{MOST_MESSAGE, MOST_PROCESSES};
 ghost use Rattle.std.specs.Char.{digit_value};
 ghost use Rattle.std.specs.List.{list_all, position_from};
 ghost use Rattle.std.specs.Str.{bytes_eq};
-ghost use Rattle.apex_table.specs.Words.{words, is_number, is_timeout, is_digit, pairs_value, is_message, message_bytes, number, timeout, requested_mode, entry_of};
+ghost use Rattle.apex_words.specs.Words.{words, is_number, is_timeout, is_digit, pairs_value, is_message, message_bytes, number, timeout, requested_mode, entry_of};
 
 use crate::fault::TableFault;
-use crate::named::place_of;
 use crate::subject::Subject;
 use apex_machine::Literal;
 use apex_types::{
@@ -138,6 +137,19 @@ pub fn message_bytes(subject: Subject, word: &str) -> Result<Literal, TableFault
         return Err(TableFault::OutOfRange(subject));
     }
     Ok(decoded(digits))
+}
+
+/// The place, counted from 0, of the first of these names that is this one.
+fn place_of(names: &[Name], name: &[u8]) -> Option<usize>
+    ensures found { result ≡ position_from (bytes_eq name.now) 0 names.now }
+    ensures bound { IfSome result (λ i. i < length names.now) }
+{
+    for (i, other) in names.iter().enumerate() {
+        if name == other.as_bytes() {
+            return Some(i);
+        }
+    }
+    None
 }
 
 /// The place, counted from 0, of the entry of this name, if one has it.

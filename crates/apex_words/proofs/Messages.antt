@@ -5,9 +5,9 @@ use Rattle.std.specs.List.{list_all}
 use Rattle.std.specs.Str.{bytes_eq}
 use Rattle.std.proofs.lemmas.Bool.Decides.{nat_tests}
 use Rattle.apex_types.specs.declared.limits.TheConstants.{MOST_MESSAGE}
-use Rattle.apex_table.specs.Terms.{Subject}
-use Rattle.apex_table.specs.declared.fault.TableFault.TheVariants.{OutOfRange}
-use Rattle.apex_table.specs.Words.{is_digit, pairs_value, message_bytes}
+use Rattle.apex_words.specs.Terms.{Subject}
+use Rattle.apex_words.specs.declared.fault.TableFault.TheVariants.{OutOfRange}
+use Rattle.apex_words.specs.Words.{is_digit, pairs_value, message_bytes}
 
 pub count_of_pairs : (digits : List ℕ) → length (pairs_value digits) ≡ length digits / 2
 count_of_pairs [] = refl

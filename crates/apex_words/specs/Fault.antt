@@ -1,10 +1,10 @@
 -- The text of a fault, and what the fault is about.
 use Rattle.std.specs.Prelude.{codes, decimal, ℕ, List, [], ◌++◌, Option, Some, None}
-use Rattle.apex_table.specs.declared.fault.Section.{Section}
-use Rattle.apex_table.specs.declared.fault.Section.TheVariants.{Top, Process, Semaphore, Buffer, Blackboard, EventFlag, Mutex, Init}
-use Rattle.apex_table.specs.declared.key.Key.TheVariants as key
-use Rattle.apex_table.specs.Terms.{Key, Place, Subject, TableFault}
-use Rattle.apex_table.specs.declared.fault.TableFault.TheVariants.{Memory, NotToml, MissingKey, WrongType, OutOfRange, BadName, DoubleName, UnknownName, UnknownKey, BadStep, BadInitStep, TooMany}
+use Rattle.apex_words.specs.declared.fault.Section.{Section}
+use Rattle.apex_words.specs.declared.fault.Section.TheVariants.{Top, Process, Semaphore, Buffer, Blackboard, EventFlag, Mutex, Init}
+use Rattle.apex_words.specs.declared.key.Key.TheVariants as key
+use Rattle.apex_words.specs.Terms.{Key, Place, Subject, TableFault}
+use Rattle.apex_words.specs.declared.fault.TableFault.TheVariants.{Memory, NotToml, MissingKey, WrongType, OutOfRange, BadName, DoubleName, UnknownName, UnknownKey, BadStep, BadInitStep, TooMany}
 
 -- a section's word
 abbrev pub section_word : Section → List ℕ

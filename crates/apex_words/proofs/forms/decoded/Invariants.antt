@@ -1,7 +1,7 @@
 use Rattle.std.proofs.Common.{◌≡◌, ◌+◌, ◌*◌, ◌++◌, true, length}
 use Rattle.std.specs.List.{list_all}
-use Rattle.apex_table.specs.Words.{is_digit, pairs_value}
-use Rattle.apex_table.proofs.steps.words.decoded.Given as goal
+use Rattle.apex_words.specs.Words.{is_digit, pairs_value}
+use Rattle.apex_words.proofs.forms.decoded.Given as goal
 
 abbrev pub invariant-loop-rest : goal.invariant-loop-rest
 invariant-loop-rest l = record {

@@ -1,0 +1,5 @@
+pub mod Terms
+pub mod Fault
+pub mod Subjects
+pub mod Outcome
+pub mod Words
