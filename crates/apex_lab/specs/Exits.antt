@@ -40,7 +40,8 @@ pub data Ends (asked : Result Asked Unasked) (before : Ports) : End → Ports �
   of_showing : {showing : Showing} {ends : ShowEnd} {after : Ports} → asked ≡ Ok (to_show showing)
       → ShowEnds showing before ends after → Ends asked before (end_of_showing ends) after
   -- the schedules of a pace are searched
-  of_search : {search : Search} {ends : inquiry.End} {after : Ports} → asked ≡ Ok (to_search search)
+  of_search : {search : Search} {ends : inquiry.End} {after : Ports}
+      → asked ≡ Ok (to_search search)
       → SearchEnds search before ends after → Ends asked before (end_of_search ends) after
   -- a table is linted
   of_lint : {lint : Lint} {ends : End} {after : Ports} → asked ≡ Ok (to_lint lint)
