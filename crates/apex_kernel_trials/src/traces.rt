@@ -3,7 +3,8 @@
 
 use crate::scans::booted;
 use apex_history::Counted;
-use apex_pictures::{Style, TickLength, draw};
+use apex_drawing::{Style, draw};
+use apex_moments::TickLength;
 use apex_table::read_table;
 use apex_types::{CoreId, Event};
 use std::alloc::Global;

@@ -5,7 +5,7 @@ use Rattle.apex_types.specs.Limits.{latest}
 use Rattle.apex_types.specs.Numbers.{at_least, at_most, number_of}
 use Rattle.apex_pace.specs.declared.paces.Pace.{Pace}
 use Rattle.apex_pace.specs.declared.paces.TheConstants.{USUAL_TURNS}
-use Rattle.apex_pictures.specs.Instants.{tick_length}
+use Rattle.apex_moments.specs.Instants.{tick_length}
 use Rattle.apex_schedules.specs.Schedule.{positive_of}
 use Rattle.apex_lab.specs.declared.numbers.TheConstants.{MOST_JOBS, MOST_STATES, USUAL_STATES}
 

@@ -7,7 +7,7 @@ ghost use Rattle.apex_types.specs.declared.limits.TheConstants.{MOST_ENTRIES};
 ghost use Rattle.apex_lab.specs.Numbers.{jobs_in, number_in, pace_in, percent_in, room_in, tick_in, time_of};
 
 use apex_pace::{Pace, USUAL_TURNS};
-use apex_pictures::{LONGEST_TICK, TickLength};
+use apex_moments::{LONGEST_TICK, TickLength};
 use apex_schedules::read_positive;
 use apex_types::{MOST_ENTRIES, MOST_TICKS, number_at_most};
 

@@ -2,7 +2,8 @@
 use crate::windows::Window;
 use apex_objects::Form;
 use apex_pace::Pace;
-use apex_pictures::{Axis, TickLength};
+use apex_moments::TickLength;
+use apex_pictures::Axis;
 use apex_schedules::Item;
 use apex_types::Name;
 
