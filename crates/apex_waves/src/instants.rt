@@ -1,7 +1,6 @@
 //! The instants of a dump: where the moment after an entry stands on its axis.
 ghost use Rattle.std.specs.Prelude.{◌≡◌, ◌≤◌};
 ghost use Rattle.apex_types.specs.Limits.{latest};
-ghost use Rattle.apex_types.specs.declared.limits.TheConstants.{MOST_ENTRIES};
 ghost use Rattle.apex_waves.specs.Instants.{units};
 
 use apex_moments::Instant;
