@@ -3,7 +3,7 @@
 
 use crate::scans::booted;
 use apex_history::Counted;
-use apex_pictures::{Style, draw};
+use apex_drawing::{Style, draw};
 use apex_scales::TickLength;
 use apex_table::read_table;
 use apex_types::{CoreId, Event};

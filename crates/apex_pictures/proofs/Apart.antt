@@ -8,7 +8,7 @@ use Rattle.apex_machine.specs.Machine.{opening, run}
 use Rattle.apex_machine.specs.table.Table.{Table, IsLawful}
 use Rattle.apex_pictures.specs.Axes.{idle_width, place_behind, place_of, ticks_width, time_of}
 use Rattle.apex_pictures.specs.Laws.{AreApart, ColumnsAreApart, history_of}
-use Rattle.apex_pictures.specs.Terms.{Entry, Event}
+use Rattle.apex_moments.specs.Terms.{Entry, Event}
 use Rattle.apex_scales.specs.declared.Axis.{Axis}
 use Rattle.apex_scales.specs.declared.Axis.TheVariants.{Entries, Time}
 use Rattle.apex_pictures.specs.declared.axes.TheConstants.{COLUMN, MOST_ROOM, TICK}

@@ -1,14 +1,3 @@
-pub mod Places
-pub mod ReadBack
 pub mod Said
-pub mod NextInstants
-pub mod Pictured
 pub mod Times
 pub mod Apart
-pub mod Drawn
-pub mod Order
-pub mod Columns
-pub mod Counted
-pub mod SlicesWhole
-pub mod TracksShown
-pub mod Arrowed

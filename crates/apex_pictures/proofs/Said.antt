@@ -4,7 +4,7 @@ use Rattle.std.proofs.lemmas.Fmt.{decimal_digit}
 use Rattle.apex_calls.specs.Lines.{asked_text, line_of, reply_text}
 use Rattle.apex_machine.specs.table.Table.{Table}
 use Rattle.apex_pictures.specs.Svg.{bare, said_line}
-use Rattle.apex_pictures.specs.Terms.{Entry}
+use Rattle.apex_moments.specs.Terms.{Entry}
 
 zero_text : decimal 0 ≡ codes "0"
 zero_text = decimal_digit 0 (omega arith)

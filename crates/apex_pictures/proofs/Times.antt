@@ -9,8 +9,8 @@ use Rattle.apex_machine.specs.table.Table.{Table, IsLawful}
 use Rattle.apex_laws.proofs.Runs.{accept-full, accept-room}
 use Rattle.apex_laws.proofs.Sound.{IsSound, forward_after, sound_accept, sound_opening}
 use Rattle.apex_pictures.specs.Axes.{time_of}
-use Rattle.apex_pictures.specs.Terms.{Entry, Event}
-use Rattle.apex_pictures.proofs.Pictured.{event_timed}
+use Rattle.apex_moments.specs.Terms.{Entry, Event}
+use Rattle.apex_moments.proofs.Pictured.{event_timed}
 
 -- the time of the entry at a place
 abbrev pub time_at : List Entry → ℕ → ℕ

@@ -1,8 +1,8 @@
 -- The places of the columns of a picture along its axis, in pixels from the first column.
 use Rattle.std.specs.Prelude.{ℕ, ◌+◌, ◌-◌, ◌*◌, ◌/◌, List, map, max, min, slice_index_or}
 use Rattle.apex_pictures.specs.Excerpts.{last_drawn}
-use Rattle.apex_pictures.specs.Places.{of_places}
-use Rattle.apex_pictures.specs.Terms.{Entry}
+use Rattle.apex_moments.specs.Places.{of_places}
+use Rattle.apex_moments.specs.Terms.{Entry}
 use Rattle.apex_scales.specs.declared.Axis.{Axis}
 use Rattle.apex_scales.specs.declared.Axis.TheVariants.{Entries, Time}
 use Rattle.apex_pictures.specs.declared.axes.TheConstants.{COLUMN, MOST_ROOM, TICK}

@@ -8,7 +8,7 @@ use Rattle.apex_types.specs.declared.calls.Call.TheVariants.{Process}
 use Rattle.apex_types.specs.declared.calls.ObjectCall.TheVariants.{KindService}
 use Rattle.apex_types.specs.declared.calls.ProcessService.TheVariants.{InitializeCoreAffinity}
 use Rattle.apex_types.specs.declared.limits.TheConstants.{MOST_INIT_STEPS}
-use Rattle.apex_pictures.specs.Places.{of_places}
+use Rattle.apex_moments.specs.Places.{of_places}
 use Rattle.apex_pictures.specs.declared.rows.Rows.{Rows}
 use Rattle.apex_pictures.specs.declared.rows.Selection.{Selection}
 use Rattle.apex_pictures.specs.declared.rows.TheConstants.{NO_CORE, ROW}

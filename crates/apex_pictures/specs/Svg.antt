@@ -11,19 +11,16 @@ use Rattle.apex_types.specs.declared.entries.Who.TheVariants.{Ticker}
 use Rattle.apex_machine.specs.declared.holdings.Holding.{Holding}
 use Rattle.apex_types.specs.declared.entries.Notice.TheVariants.{Woken, Released, Missed}
 use Rattle.apex_types.specs.declared.entries.Reply.TheVariants.{Advanced}
-use Rattle.apex_pictures.specs.Moments.{Shown, no_cell}
+use Rattle.apex_moments.specs.Moments.{Shown, no_cell}
 use Rattle.apex_pictures.specs.Rows.{selection_of}
-use Rattle.apex_pictures.specs.Terms.{Caller, Cell, Entry, Notice, Reply, Wait}
-use Rattle.apex_pictures.specs.Texts.{xml_text}
+use Rattle.apex_moments.specs.Terms.{Caller, Cell, Entry, Notice, Reply, Wait}
+use Rattle.apex_moments.specs.Texts.{texts, xml_text}
+use Rattle.apex_moments.specs.Words.{notice_word}
 use Rattle.apex_pictures.specs.declared.excerpts.Excerpt.{Excerpt}
 use Rattle.apex_pictures.specs.declared.frames.Frame.{Frame}
 use Rattle.apex_pictures.specs.declared.marks.Mark.{Mark}
 use Rattle.apex_pictures.specs.declared.rows.Selection.{Selection}
 use Rattle.apex_pictures.specs.declared.svg.TheConstants.{MOST_CALL}
-
--- texts one behind the other
-abbrev pub texts : List (List ℕ) → List ℕ
-texts parts = flat_map (λ part. part) parts
 
 -- the place of the row of a process
 abbrev pub row_of : Frame → ℕ → ℕ
@@ -223,12 +220,6 @@ abbrev pub notice_process : Notice → ℕ
 notice_process (Woken p code) = p
 notice_process (Released p) = p
 notice_process (Missed p kind) = p
-
--- the word of a notice
-abbrev pub notice_word : Notice → List ℕ
-notice_word (Woken p code) = codes "woken"
-notice_word (Released p) = codes "released"
-notice_word (Missed p kind) = codes "missed"
 
 -- where the mark of a notice begins
 abbrev pub corner_text : Notice → List ℕ

@@ -8,9 +8,8 @@ use crate::excerpts::Excerpt;
 use crate::frames::Frame;
 use crate::marks::Mark;
 use crate::rows::Selection;
-use crate::texts::{Part, put, put_all};
-use crate::words::{id_part, name_of};
 use apex_configs::Table;
+use apex_moments::{Part, id_part, name_of, put, put_all};
 use apex_types::{CoreId, ProcessId};
 use std::alloc::AllocError;
 
@@ -72,7 +71,7 @@ fn put_label_at(
 }
 
 /// Puts what comes before the columns.
-pub(crate) fn put_head(text: &mut Vec<u8>, frame: &Frame) -> Result<(), AllocError>
+pub fn put_head(text: &mut Vec<u8>, frame: &Frame) -> Result<(), AllocError>
     ensures { OnOk result (text.new.items ≡ text.old.items ++ head_text frame.now) }
 {
     put_all(
@@ -231,7 +230,7 @@ fn put_selection_part(text: &mut Vec<u8>, frame: &Frame) -> Result<(), AllocErro
 /// Puts what comes after the columns: the mark of a departure, the headings of the cores, the labels of
 /// the rows, and the key, with the notes behind it.
 #[tactic(auto, using(std::proofs::Common::append_assoc))]
-pub(crate) fn put_foot(text: &mut Vec<u8>, table: &Table, frame: &Frame) -> Result<(), AllocError>
+pub fn put_foot(text: &mut Vec<u8>, table: &Table, frame: &Frame) -> Result<(), AllocError>
     ensures { OnOk result (text.new.items ≡ text.old.items ++ foot_text table.now frame.now) }
 {
     put_mark_part(text, frame)?;

@@ -1,30 +1,9 @@
-//! What holds of pictures and of their texts.
-ghost use Rattle.apex_pictures.specs.Laws.{AreInOrder, ArePictures, ColumnsAreApart};
-ghost use Rattle.apex_pictures.specs.Texts.{AreReadBack};
-
-/// The picture of every run has a column for each entry of the history. The column has the entry,
-/// and for each process its state after the entry, what it waits for and the mutexes that it owns,
-/// and for each core the process that it runs.
-pub fn columns_say_entries()
-    ensures { ArePictures }
-{}
-
-/// The moments of every run, of a lawful table, are in order on the axis of its trace: the moment
-/// after an entry comes after the one before it, whatever the number of entries of one time, and
-/// each is in the tick of its time.
-pub fn moments_are_in_order()
-    ensures { AreInOrder }
-{}
+//! What holds of the columns of a picture.
+ghost use Rattle.apex_pictures.specs.Laws.{ColumnsAreApart};
 
 /// In the SVG of every run, of a lawful table, no column begins before the end of the one before it,
 /// along either axis. By time, ticks without an entry have room, and entries of one time stand side by
 /// side.
 pub fn columns_are_apart()
     ensures { ColumnsAreApart }
-{}
-
-/// A reader of XML takes back every text as it is: the name of a process is read from an SVG as the
-/// table gives it.
-pub fn texts_are_read_back()
-    ensures { AreReadBack }
 {}

@@ -5,8 +5,8 @@ ghost use Rattle.arrayvec.specs.ArrayVec.{array_vec_len};
 ghost use Rattle.apex_types.specs.declared.limits.TheConstants.{MOST_CORES, MOST_PROCESSES};
 ghost use Rattle.apex_pictures.specs.Rows.{HasRows, bound_core, core_by, core_of, cores_of, headings_at, heading_at, is_chosen, row_at, rows_at, rows_before, rows_chosen, rows_of_core, selection_of};
 
-use crate::moments::CORES;
 use apex_configs::Table;
+use apex_moments::CORES;
 use apex_types::{Call, MOST_INIT_STEPS, MOST_PROCESSES, ObjectCall, ProcessId, ProcessService};
 use arrayvec::ArrayVec;
 

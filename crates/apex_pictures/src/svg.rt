@@ -2,16 +2,17 @@
 ghost use Rattle.std.specs.Prelude.{◌≡◌, ◌≤◌, ◌++◌, codes, drop, flat_map, length, take, OnOk};
 ghost use Rattle.apex_calls.specs.Lines.{IsPrintable, line_of};
 ghost use Rattle.apex_machine.specs.text.Listing.{texts_of};
-ghost use Rattle.apex_pictures.specs.Texts.{xml_text};
+ghost use Rattle.apex_moments.specs.Texts.{xml_text};
 ghost use Rattle.apex_pictures.specs.Svg.{bare, bar_text, call_at, call_end, call_text, cell_at, cell_end, cell_part, cell_text, circle_text, column_end, column_text, corner_text, cut_text, dash_text, dash_to, instant_text, is_heard, is_timed, marks_text, mutex_text, notice_process, outline_text, owns_part, ring_in, ring_text, said_text, start_text, time_text, title_text, waits_part, wedge_at, wedge_text};
 
 use crate::frames::Frame;
-use crate::moments::{Cell, Moment};
-use crate::texts::{Part, put, put_all, put_xml};
-use crate::words::{id_part, name_of, notice_word, put_object, put_wait, state_word};
 use apex_configs::Table;
 use apex_history::{Lines, NextSteps, put_line};
 use apex_machine::Holding;
+use apex_moments::{
+    Cell, Moment, Part, id_part, name_of, notice_word, put, put_all, put_object, put_wait, put_xml,
+    state_word,
+};
 use apex_types::{Caller, LentEntry, Notice, ProcessId, Reply, Who};
 use std::alloc::AllocError;
 
@@ -614,7 +615,7 @@ fn put_start(text: &mut Vec<u8>, frame: &Frame, number: u32) -> Result<(), Alloc
 
 /// Puts the column of an entry, if the frame shows it.
 #[tactic(auto, using(std::proofs::Common::append_assoc))]
-pub(crate) fn put_column(
+pub fn put_column(
     text: &mut Vec<u8>,
     table: &Table,
     frame: &Frame,

@@ -11,11 +11,11 @@ use Rattle.apex_console.specs.Faults.{fault_of_read}
 use Rattle.apex_console.specs.Reports.{Answer, Refuses, refuses, runs_to}
 use Rattle.apex_console.specs.declared.CliFault.{CliFault}
 use Rattle.apex_console.specs.declared.CliFault.TheVariants.{Memory, Write}
-use Rattle.apex_pictures.specs.Drawing.{CountsDrawFault}
-use Rattle.apex_pictures.specs.declared.DrawFault.{DrawFault}
-use Rattle.apex_pictures.specs.declared.DrawFault.TheVariants as draw
-use Rattle.apex_pictures.specs.declared.Style.{Style}
-use Rattle.apex_pictures.specs.declared.Style.TheVariants as styles
+use Rattle.apex_drawing.specs.Drawing.{CountsDrawFault}
+use Rattle.apex_drawing.specs.declared.DrawFault.{DrawFault}
+use Rattle.apex_drawing.specs.declared.DrawFault.TheVariants as draw
+use Rattle.apex_drawing.specs.declared.Style.{Style}
+use Rattle.apex_drawing.specs.declared.Style.TheVariants as styles
 use Rattle.apex_views.specs.Departures.{Departure}
 use Rattle.apex_views.specs.Shows.{Answers, Gives, IsGivenTo, IsRunTo, IsToldBy, Outcome, ShowEnd, Shows, ShowsOutcome, cut_off, cut_short, end_before, end_of, fails, first_fault, no_memory, outcome_in, outcome_of_run, parts, ran, refused, shown, shows, stops, told, unread, unwritten, whole}
 use Rattle.apex_views.specs.Plans.{AppendsPrefixOfView, AppendsView, IsStyleOf, excerpt_at, excerpt_in, excerpt_with, fault_of_drawing}

@@ -21,18 +21,18 @@ use Rattle.apex_schedules.specs.Schedule.{events_of_items}
 use Rattle.apex_console.specs.declared.CliFault.{CliFault}
 use Rattle.apex_console.specs.declared.CliFault.TheVariants.{Memory, Write}
 use Rattle.apex_schedules.specs.declared.Item.{Item}
-use Rattle.apex_pictures.specs.declared.DrawFault.{DrawFault}
-use Rattle.apex_pictures.specs.declared.DrawFault.TheVariants as draw
+use Rattle.apex_drawing.specs.declared.DrawFault.{DrawFault}
+use Rattle.apex_drawing.specs.declared.DrawFault.TheVariants as draw
 use Rattle.apex_pictures.specs.Axes.{behind_of, last_column, places_of}
 use Rattle.apex_pictures.specs.Excerpts.{excerpt_of, first_drawn, last_drawn}
-use Rattle.apex_pictures.specs.Pictures.{picture_text}
+use Rattle.apex_drawing.specs.Pictures.{picture_text}
 use Rattle.apex_pictures.specs.Rows.{HasRows}
 use Rattle.apex_scales.specs.declared.Axis.{Axis}
 use Rattle.apex_pictures.specs.declared.Excerpt.{Excerpt}
 use Rattle.apex_pictures.specs.declared.Extent.{Extent}
 use Rattle.apex_pictures.specs.declared.Frame.{Frame}
-use Rattle.apex_pictures.specs.declared.Style.{Style}
-use Rattle.apex_pictures.specs.declared.Style.TheVariants as style
+use Rattle.apex_drawing.specs.declared.Style.{Style}
+use Rattle.apex_drawing.specs.declared.Style.TheVariants as style
 use Rattle.apex_views.specs.Departures.{Departure, Marks, departure_behind, extent_of}
 use Rattle.apex_views.specs.Rows.{rows_for}
 use Rattle.apex_showings.specs.Showings.{Chart, Picture, View, drawn, listed, svg, trace}

@@ -8,7 +8,7 @@ ghost use Rattle.apex_schedules.specs.Schedule.{are_cores_below, events_of_items
 ghost use Rattle.apex_console.specs.declared.CliFault.{CliFault as CliFaultOf};
 ghost use Rattle.apex_views.specs.Departures.{Departure as DepartureAt, departure_said};
 ghost use Rattle.apex_views.specs.Shows.{Shows, first_fault};
-ghost use Rattle.apex_pictures.specs.declared.Style.TheVariants.{Trace};
+ghost use Rattle.apex_drawing.specs.declared.Style.TheVariants.{Trace};
 ghost use Rattle.apex_views.specs.Plans.{IsFrameOf, IsListOf, IsRunOf, IsStyleOf, excerpt_with, fault_of_drawing, machine_of};
 ghost use Rattle.apex_views.specs.Rows.{rows_for};
 ghost use Rattle.apex_showings.specs.Showings.{Picture as PictureAsked, chart_said, drawn};
@@ -20,7 +20,8 @@ use apex_configs::Table;
 use apex_console::{CliFault, booted, repeated};
 use apex_dispatch::{Kernel, events_in};
 use apex_history::{Counted, Sink};
-use apex_pictures::{DrawFault, Excerpt, Frame, Style, draw};
+use apex_drawing::{DrawFault, Style, draw};
+use apex_pictures::{Excerpt, Frame};
 use apex_process::QueueStore;
 use apex_scales::TickLength;
 use apex_schedules::Item;

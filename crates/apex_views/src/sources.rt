@@ -25,7 +25,7 @@ use apex_departures::{fault_in_memory, shown_lines};
 use apex_dispatch::Kernel;
 use apex_history::{Counted, Source, read_all};
 use apex_pace::Pace;
-use apex_pictures::Style;
+use apex_drawing::Style;
 use apex_process::QueueStore;
 use apex_schedules::Item;
 use apex_showings::{Chart, Listing, Picture, RunSource, Showing, View, Window, read_items};

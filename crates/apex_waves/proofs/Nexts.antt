@@ -3,7 +3,7 @@ use Rattle.std.proofs.Common.{◌≡◌, ◌∙◌, ℕ, zero, suc, ◌+◌, ◌
 use Rattle.std.proofs.lemmas.Grind.{flat_map-append}
 use Rattle.std.proofs.lemmas.List.{get_or-map, map-append}
 use Rattle.std.specs.Prelude.{flat_map, map}
-use Rattle.apex_waves.specs.Places.{of_places}
+use Rattle.apex_moments.specs.Places.{of_places}
 
 -- more bytes follow those behind a text
 pub behind : (text front more before after : List ℕ) → before ≡ text ++ front → after ≡ before ++ more

@@ -12,11 +12,13 @@ use Rattle.apex_machine.specs.table.Table.{IsLawful, Table}
 use Rattle.apex_laws.proofs.Runs.{accept-full, accept-room}
 use Rattle.apex_laws.proofs.Sound.{IsSound, forward_after, sound_accept, sound_opening, sound_run}
 use Rattle.apex_waves.specs.Dumps.{end_time}
-use Rattle.apex_waves.specs.Instants.{instant_after, next_instant, units, within_tick}
+use Rattle.apex_moments.specs.Instants.{instant_after, next_instant}
+use Rattle.apex_waves.specs.Instants.{units, within_tick}
 use Rattle.apex_waves.specs.Laws.{TimesRise, after}
-use Rattle.apex_waves.specs.declared.instants.Instant.{Instant}
-use Rattle.apex_waves.proofs.NextInstants.{instant_more, place_within, timed_machine}
-use Rattle.apex_waves.proofs.Steps.{event_adds, longer}
+use Rattle.apex_moments.specs.declared.instants.Instant.{Instant}
+use Rattle.apex_moments.proofs.Pictured.{instant_more, timed_machine}
+use Rattle.apex_moments.proofs.NextInstants.{place_within}
+use Rattle.apex_moments.proofs.Pictured.{event_adds, longer}
 
 -- the next place comes after this one
 within_rises : (p : ℕ) → within_tick p < within_tick (p + 1)

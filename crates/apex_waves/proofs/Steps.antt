@@ -4,15 +4,16 @@ use Rattle.std.proofs.Math.Seq.{get_or-append_seam, take-length}
 use Rattle.std.proofs.lemmas.Bool.{cases_lt}
 use Rattle.std.proofs.lemmas.List.{get_or_append_left, take-append-le}
 use Rattle.std.specs.Prelude.{take}
-use Rattle.apex_types.specs.declared.entries.Event.TheVariants.{Turn, Tick}
-use Rattle.apex_machine.specs.Machine.{Machine, accept, events_of, happen, objects_after, opening, replay, run, tick, turn}
+use Rattle.apex_machine.specs.Machine.{Machine, accept, events_of, objects_after, opening, replay, run}
 use Rattle.apex_machine.specs.processes.Roster.{Roster, opening_roster}
 use Rattle.apex_machine.specs.table.Table.{Table}
 use Rattle.apex_machine.specs.text.Listing.{texts_of}
 use Rattle.apex_laws.proofs.Runs.{accept-full, accept-room}
-use Rattle.apex_waves.specs.Instants.{units, instant_after}
+use Rattle.apex_moments.specs.Instants.{instant_after}
+use Rattle.apex_waves.specs.Instants.{units}
 use Rattle.apex_types.specs.declared.entries.Entry.{Entry}
 use Rattle.apex_types.specs.declared.entries.Event.{Event}
+use Rattle.apex_moments.proofs.Pictured.{event_adds, longer}
 use Rattle.apex_waves.specs.Dumps.{entry_text, step_text, steps_text, time_after}
 use Rattle.apex_waves.specs.Moments.{Moment, moment_after, moment_in, moment_of, roster_after}
 use Rattle.apex_waves.specs.Printing.{IsFollowed}
@@ -22,20 +23,6 @@ texts_same f g zero same = refl
 texts_same f g (suc n) same =
     ap (λ (l : List ℕ). l ++ f n) (texts_same f g n (λ k within. same k (omega (arith, within))))
     ∙ ap (λ (l : List ℕ). texts_of g n ++ l) (same n (omega arith))
-
--- the machine with one entry more and the roster after it
-abbrev pub longer : Machine → Entry → Roster → Machine
-longer machine entry roster = record {
-  roster = roster;
-  past = machine.past ++ roster ∷ [];
-  history = machine.history ++ entry ∷ [];
-}
-
-pub event_adds : (table : Table) (machine : Machine) (event : Event)
-    → (entry : Entry) × (roster : Roster) × (happen table machine event ≡ longer machine entry roster)
-unfolding turn tick
-event_adds table machine (Turn core) = (_, _, refl)
-event_adds table machine (Tick n) = (_, _, refl)
 
 -- the moment after all entries is the machine's
 moment_now : (table : Table) (machine : Machine) → IsFollowed table machine

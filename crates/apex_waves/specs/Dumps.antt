@@ -4,7 +4,8 @@ use Rattle.apex_machine.specs.Machine.{Machine, opening}
 use Rattle.apex_machine.specs.table.Table.{Table}
 use Rattle.apex_machine.specs.text.Listing.{texts_of}
 use Rattle.apex_waves.specs.Heads.{head_text}
-use Rattle.apex_waves.specs.Instants.{instant_after, next_instant, units}
+use Rattle.apex_moments.specs.Instants.{instant_after, next_instant}
+use Rattle.apex_waves.specs.Instants.{units}
 use Rattle.apex_waves.specs.Moments.{Moment, moment_after, moment_in}
 use Rattle.apex_waves.specs.Signals.{signals_of}
 use Rattle.apex_waves.specs.Values.{change_in}

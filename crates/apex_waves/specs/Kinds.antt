@@ -1,7 +1,7 @@
 -- The kinds of signals: how many of each kind a table has, and the names of their scopes.
 use Rattle.std.specs.Prelude.{ℕ, List, ◌++◌, codes, length}
 use Rattle.apex_machine.specs.table.Table.{Table}
-use Rattle.apex_waves.specs.Places.{of_places}
+use Rattle.apex_moments.specs.Places.{of_places}
 use Rattle.apex_waves.specs.declared.kinds.Kind.{Kind}
 use Rattle.apex_waves.specs.declared.kinds.Kind.TheVariants.{Core, Process, Semaphore, Buffer, Blackboard, EventFlag, Mutex}
 use Rattle.apex_waves.specs.declared.signals.Signal.{Signal}

@@ -1,13 +1,8 @@
 -- What the signals of a dump show.
-use Rattle.std.specs.Prelude.{ℕ, Bool, true, false, length, Option, None, Some, ◌==◌, if◌then◌else◌, is_some}
-use Rattle.apex_machine.specs.Deeds.{Objects}
+use Rattle.std.specs.Prelude.{ℕ, Bool, true, false, Option, None, Some, ◌==◌}
 use Rattle.apex_machine.specs.processes.Owners.{owner}
 use Rattle.apex_machine.specs.processes.Running.{chosen, process_state}
-use Rattle.apex_machine.specs.services.BlackboardServices.{blackboard_kind}
-use Rattle.apex_machine.specs.services.BufferServices.{buffer_kind}
-use Rattle.apex_machine.specs.services.EventFlagServices.{event_flag_kind}
-use Rattle.apex_machine.specs.services.SemaphoreServices.{semaphore_kind}
-use Rattle.apex_machine.specs.text.Listing.{object_in}
+use Rattle.apex_moments.specs.Counts.{content_of, displayed_on, raised_of, value_of}
 use Rattle.apex_types.specs.declared.modes.State.{State}
 use Rattle.apex_types.specs.declared.modes.State.TheVariants.{Dormant, Ready, Running, Waiting}
 use Rattle.apex_waves.specs.Moments.{Moment}
@@ -15,26 +10,6 @@ use Rattle.apex_waves.specs.declared.levels.Level.{Level}
 use Rattle.apex_waves.specs.declared.levels.Level.TheVariants as levels
 use Rattle.apex_waves.specs.declared.signals.Signal.{Signal}
 use Rattle.apex_waves.specs.declared.signals.Signal.TheVariants.{Core, Process, Semaphore, Buffer, Blackboard, EventFlag, Mutex}
-
--- 1 for yes, 0 for no
-abbrev pub one_if : Bool → ℕ
-one_if holds = if holds then 1 else 0
-
--- the value of semaphore s
-abbrev pub value_of : Objects → ℕ → ℕ
-value_of objects s = (object_in semaphore_kind objects.semaphores s).value
-
--- the number of messages in buffer b
-abbrev pub content_of : Objects → ℕ → ℕ
-content_of objects b = length (object_in buffer_kind objects.buffers b).messages
-
--- the number of messages on blackboard b
-abbrev pub shown_on : Objects → ℕ → ℕ
-shown_on objects b = one_if (is_some (object_in blackboard_kind objects.blackboards b).message)
-
--- 1 if event flag e is up
-abbrev pub raised_of : Objects → ℕ → ℕ
-raised_of objects e = one_if (object_in event_flag_kind objects.event_flags e).up
 
 -- What a signal shows: that of a core the process that it runs, of a process its state, of a semaphore its
 -- value, of a buffer and of a blackboard the number of messages, of an event flag whether it is up, and of a
@@ -44,7 +19,7 @@ level_of moment (Core core) = levels.Process (chosen moment.roster core)
 level_of moment (Process p) = levels.State (process_state moment.roster p)
 level_of moment (Semaphore s) = levels.Count (value_of moment.objects s)
 level_of moment (Buffer b) = levels.Count (content_of moment.objects b)
-level_of moment (Blackboard b) = levels.Count (shown_on moment.objects b)
+level_of moment (Blackboard b) = levels.Count (displayed_on moment.objects b)
 level_of moment (EventFlag e) = levels.Count (raised_of moment.objects e)
 level_of moment (Mutex m) = levels.Process (owner moment.roster m)
 

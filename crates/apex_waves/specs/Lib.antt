@@ -1,4 +1,3 @@
-pub mod Places
 pub mod Instants
 pub mod Kinds
 pub mod Signals

@@ -2,7 +2,7 @@
 use Rattle.std.specs.Prelude.{◌≡◌, ℕ, List, ◌++◌, length, map}
 use Rattle.apex_machine.specs.Machine.{Machine}
 use Rattle.apex_machine.specs.table.Table.{Table}
-use Rattle.apex_waves.specs.Instants.{instant_after}
+use Rattle.apex_moments.specs.Instants.{instant_after}
 use Rattle.apex_waves.specs.Dumps.{steps_text}
 use Rattle.apex_waves.specs.Levels.{level_of}
 use Rattle.apex_waves.specs.Moments.{moment_in, roster_after}

@@ -1,13 +1,14 @@
 //! The levels of the signals: what each shows at a moment.
 ghost use Rattle.std.specs.Prelude.{◌≡◌};
 ghost use Rattle.apex_machine.specs.processes.Running.{process_state};
-ghost use Rattle.apex_waves.specs.Levels.{content_of, level_of, raised_of, same_level, same_process, same_state, shown_on, value_of};
+ghost use Rattle.apex_waves.specs.Levels.{level_of, same_level, same_process, same_state};
 ghost use Rattle.apex_waves.specs.Moments.{moment_in, moment_of};
 
 use crate::signals::{MOST_SIGNALS, Signal};
 use apex_dispatch::{Kernel, Objects};
+use apex_moments::{content_of, displayed_on, raised_of, value_of};
 use apex_store::Store;
-use apex_types::{BlackboardId, BufferId, EventId, ProcessId, SemaphoreId, State};
+use apex_types::{ProcessId, State};
 use arrayvec::ArrayVec;
 
 /// What a signal shows.
@@ -18,7 +19,7 @@ pub(crate) enum Level {
     /// The process that a core runs, or that owns a mutex.
     Process(Option<ProcessId>),
     /// How much an object holds.
-    Count(u32),
+    Count(u64),
 }
 
 impl Default for Level {
@@ -41,46 +42,6 @@ fn state_of<S: Store>(store: &S, process: ProcessId) -> State
     }
 }
 
-/// The value of a semaphore; 0 if there is no such semaphore.
-fn value_of(objects: &Objects, semaphore: SemaphoreId) -> u32
-    ensures { result ≡ value_of objects.now semaphore }
-{
-    match objects.semaphores.get(semaphore.place()) {
-        Some(semaphore) => u32::from(semaphore.value()),
-        None => 0,
-    }
-}
-
-/// The number of messages in a buffer; 0 if there is no such buffer.
-fn content_of(objects: &Objects, buffer: BufferId) -> u32
-    ensures { result ≡ content_of objects.now buffer }
-{
-    match objects.buffers.get(buffer.place()) {
-        Some(buffer) => buffer.messages().len() as u32,
-        None => 0,
-    }
-}
-
-/// 1 if a blackboard has a message, and else 0.
-fn shown_on(objects: &Objects, blackboard: BlackboardId) -> u32
-    ensures { result ≡ shown_on objects.now blackboard }
-{
-    match objects.blackboards.get(blackboard.place()) {
-        Some(blackboard) => u32::from(blackboard.message().is_some()),
-        None => 0,
-    }
-}
-
-/// 1 if an event flag is up, and else 0.
-fn raised_of(objects: &Objects, event: EventId) -> u32
-    ensures { result ≡ raised_of objects.now event }
-{
-    match objects.event_flags.get(event.place()) {
-        Some(event) => u32::from(event.is_up()),
-        None => 0,
-    }
-}
-
 /// What a signal shows of these processes and these objects.
 fn level_in<S: Store>(store: &S, objects: &Objects, signal: &Signal) -> Level
     ensures { result ≡ level_of (moment_of (S.roster store.now) objects.now) signal.now }
@@ -90,7 +51,7 @@ fn level_in<S: Store>(store: &S, objects: &Objects, signal: &Signal) -> Level
         Signal::Process(process) => Level::State(state_of(store, *process)),
         Signal::Semaphore(semaphore) => Level::Count(value_of(objects, *semaphore)),
         Signal::Buffer(buffer) => Level::Count(content_of(objects, *buffer)),
-        Signal::Blackboard(blackboard) => Level::Count(shown_on(objects, *blackboard)),
+        Signal::Blackboard(blackboard) => Level::Count(displayed_on(objects, *blackboard)),
         Signal::EventFlag(event) => Level::Count(raised_of(objects, *event)),
         Signal::Mutex(mutex) => Level::Process(store.owner(*mutex)),
     }

@@ -2,7 +2,6 @@
 ghost use Rattle.std.specs.Prelude.{◌≡◌, ◌+◌, ◌<◌, ◌≤◌, ◌++◌, decimal, false, length};
 ghost use Rattle.std.specs.Fmt.{digit_glyph};
 ghost use Rattle.apex_types.specs.declared.limits.TheConstants.{MOST_NAME};
-ghost use Rattle.apex_machine.specs.text.Texts.{process_name, semaphore_name, buffer_name, blackboard_name, event_flag_name, mutex_name};
 ghost use Rattle.apex_waves.specs.Names.{code_text, dump_name, is_plain, letter, name_byte, number_text, signal_name};
 ghost use Rattle.apex_waves.specs.declared.names.TheConstants.{CODE_ROOM, NAME_ROOM, NUMBER_ROOM};
 ghost use Rattle.apex_waves.specs.declared.sheets.TheConstants.{SHEET_ROOM};
@@ -10,7 +9,10 @@ ghost use Rattle.apex_waves.specs.declared.sheets.TheConstants.{SHEET_ROOM};
 use crate::sheets::Sheet;
 use crate::signals::Signal;
 use apex_configs::Table;
-use apex_types::{BlackboardId, BufferId, EventId, MOST_NAME, MutexId, ProcessId, SemaphoreId};
+use apex_moments::{
+    blackboard_name, buffer_name, event_flag_name, mutex_name, name_of, semaphore_name,
+};
+use apex_types::MOST_NAME;
 use itoa::Buffer;
 
 /// The most bytes of a number.
@@ -74,73 +76,6 @@ pub(crate) fn put_name(sheet: &mut Sheet, name: &[u8])
     }
 }
 
-/// The name that the table gives to a process; no byte if there is no such process.
-pub(crate) fn process_name(table: &Table, process: ProcessId) -> &[u8]
-    ensures value { result.now ≡ process_name table.now process }
-    ensures short { length result.now ≤ MOST_NAME }
-{
-    if process.place() < table.process_count() {
-        table.process(process).name().as_bytes()
-    } else {
-        &[]
-    }
-}
-
-fn semaphore_name(table: &Table, semaphore: SemaphoreId) -> &[u8]
-    ensures value { result.now ≡ semaphore_name table.now semaphore }
-    ensures short { length result.now ≤ MOST_NAME }
-{
-    if semaphore.place() < table.semaphore_count() {
-        table.semaphore(semaphore).name().as_bytes()
-    } else {
-        &[]
-    }
-}
-
-fn buffer_name(table: &Table, buffer: BufferId) -> &[u8]
-    ensures value { result.now ≡ buffer_name table.now buffer }
-    ensures short { length result.now ≤ MOST_NAME }
-{
-    if buffer.place() < table.buffer_count() {
-        table.buffer(buffer).name().as_bytes()
-    } else {
-        &[]
-    }
-}
-
-fn blackboard_name(table: &Table, blackboard: BlackboardId) -> &[u8]
-    ensures value { result.now ≡ blackboard_name table.now blackboard }
-    ensures short { length result.now ≤ MOST_NAME }
-{
-    if blackboard.place() < table.blackboard_count() {
-        table.blackboard(blackboard).name().as_bytes()
-    } else {
-        &[]
-    }
-}
-
-fn event_flag_name(table: &Table, event: EventId) -> &[u8]
-    ensures value { result.now ≡ event_flag_name table.now event }
-    ensures short { length result.now ≤ MOST_NAME }
-{
-    if event.place() < table.event_flag_count() {
-        table.event_flag(event).name().as_bytes()
-    } else {
-        &[]
-    }
-}
-
-fn mutex_name(table: &Table, mutex: MutexId) -> &[u8]
-    ensures value { result.now ≡ mutex_name table.now mutex }
-    ensures short { length result.now ≤ MOST_NAME }
-{
-    if mutex.place() < table.mutex_count() {
-        table.mutex(mutex).name().as_bytes()
-    } else {
-        &[]
-    }
-}
-
 /// Puts the name of a signal.
 #[tactic(auto, using(std::proofs::Common::append_assoc))]
 pub(crate) fn put_signal_name(sheet: &mut Sheet, table: &Table, signal: &Signal)
@@ -153,7 +88,7 @@ pub(crate) fn put_signal_name(sheet: &mut Sheet, table: &Table, signal: &Signal)
             sheet.put("core");
             put_number(sheet, u64::from(core.number()));
         }
-        Signal::Process(process) => put_name(sheet, process_name(table, *process)),
+        Signal::Process(process) => put_name(sheet, name_of(table, *process)),
         Signal::Semaphore(semaphore) => put_name(sheet, semaphore_name(table, *semaphore)),
         Signal::Buffer(buffer) => put_name(sheet, buffer_name(table, *buffer)),
         Signal::Blackboard(blackboard) => put_name(sheet, blackboard_name(table, *blackboard)),

@@ -6,7 +6,8 @@ ghost use Rattle.apex_machine.specs.Machine.{accept, opening, run};
 ghost use Rattle.apex_types.specs.Limits.{latest};
 ghost use Rattle.apex_dispatch.specs.Kernel.{kernel_in};
 ghost use Rattle.apex_history.specs.Counted.{inner_of, failures_of, CountsFailure, AppendsBeginning, IsOfWrite};
-ghost use Rattle.apex_waves.specs.Instants.{units, instant_after, next_instant};
+ghost use Rattle.apex_moments.specs.Instants.{instant_after, next_instant};
+ghost use Rattle.apex_waves.specs.Instants.{units};
 ghost use Rattle.apex_waves.specs.Dumps.{dump_text, end_text, time_line};
 ghost use Rattle.apex_waves.specs.Heads.{head_text};
 ghost use Rattle.apex_waves.specs.Moments.{moment_in};
@@ -17,7 +18,7 @@ ghost use Rattle.apex_waves.specs.declared.signals.TheConstants.{MOST_SIGNALS};
 ghost use Rattle.apex_waves.specs.declared.values.TheConstants.{STEP_ROOM, TIME_ROOM};
 
 use crate::heads::{put_first, put_opening, put_scopes};
-use crate::instants::Instant;
+use crate::instants::units;
 use crate::levels::Levels;
 use crate::names::put_number;
 use crate::sheets::Sheet;
@@ -25,6 +26,7 @@ use crate::signals::{Signal, signals_of};
 use crate::values::{put_changes, put_values};
 use apex_dispatch::Kernel;
 use apex_history::{Counted, Sink};
+use apex_moments::Instant;
 use apex_store::Store;
 use apex_types::Event;
 use std::io::Result;
@@ -94,7 +96,7 @@ fn put_event<S: Store>(
     };
     kernel.holds();
     course.instant = course.instant.next(kernel.now());
-    put_time(sheet, course.instant.units());
+    put_time(sheet, units(course.instant));
     course.levels = put_changes(sheet, kernel, signals, course.levels.as_slice());
 }
 
@@ -106,7 +108,7 @@ fn put_end<S: Store>(sheet: &mut Sheet, kernel: &Kernel<S>, course: &Course)
 {
     kernel.holds();
     let end = course.instant.next(kernel.now());
-    put_time(sheet, end.units());
+    put_time(sheet, units(end));
 }
 
 /// Writes the value change dump of the run of the events, on a kernel before any event. It leaves

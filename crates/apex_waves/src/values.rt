@@ -1,6 +1,5 @@
 //! The values of signals, and their changes.
 ghost use Rattle.std.specs.Prelude.{◌≡◌, ◌+◌, ◌*◌, ◌<◌, ◌≤◌, ◌++◌, flat_map, length, map};
-ghost use Rattle.apex_machine.specs.text.Status.{state_text};
 ghost use Rattle.apex_waves.specs.Levels.{level_of};
 ghost use Rattle.apex_waves.specs.Moments.{Moment, moment_in};
 ghost use Rattle.apex_waves.specs.Values.{change_in, change_text, level_text, value_in, value_text};
@@ -9,15 +8,13 @@ ghost use Rattle.apex_waves.specs.declared.signals.TheConstants.{MOST_SIGNALS};
 ghost use Rattle.apex_waves.specs.declared.values.TheConstants.{LEVEL_ROOM, VALUE_ROOM};
 
 use crate::levels::{Level, Levels, is_same_level, level_of};
-use crate::names::{
-    CODE_ROOM, NAME_ROOM, NUMBER_ROOM, process_name, put_code, put_name, put_number,
-};
+use crate::names::{CODE_ROOM, NAME_ROOM, NUMBER_ROOM, put_code, put_name, put_number};
 use crate::sheets::Sheet;
 use crate::signals::{MOST_SIGNALS, Signal};
 use apex_configs::Table;
 use apex_dispatch::Kernel;
+use apex_moments::{name_of, state_word};
 use apex_store::Store;
-use apex_types::{ProcessId, State};
 
 /// The most bytes of a level.
 const LEVEL_ROOM: usize = 1 + NAME_ROOM;
@@ -30,18 +27,6 @@ pub(crate) const TIME_ROOM: usize = NUMBER_ROOM + 2;
 
 /// The most bytes of an entry: the line of its time, and a line for each signal.
 pub(crate) const STEP_ROOM: usize = TIME_ROOM + MOST_SIGNALS * VALUE_ROOM;
-
-fn state_word(state: State) -> &'static str
-    ensures value { result.now ≡ state_text state }
-    ensures short { length result.now ≤ 7 }
-{
-    match state {
-        State::Dormant => "DORMANT",
-        State::Ready => "READY",
-        State::Running => "RUNNING",
-        State::Waiting => "WAITING",
-    }
-}
 
 /// Puts the text of a level.
 #[tactic(auto, using(std::proofs::Common::append_assoc))]
@@ -58,11 +43,11 @@ fn put_level(sheet: &mut Sheet, table: &Table, level: &Level)
         Level::Process(None) => sheet.put("s(none)"),
         Level::Process(Some(process)) => {
             sheet.put("s");
-            put_name(sheet, process_name(table, *process));
+            put_name(sheet, name_of(table, *process));
         }
         Level::Count(count) => {
             sheet.put("r");
-            put_number(sheet, u64::from(*count));
+            put_number(sheet, *count);
         }
     }
 }

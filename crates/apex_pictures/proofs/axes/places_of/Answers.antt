@@ -1,9 +1,9 @@
 -- No column is later than the last one.
 use Rattle.std.proofs.Common.{◌≡◌, ◌∙◌, ◌+◌, ◌-◌, ◌≤◌, ap, arith}
 use Rattle.apex_pictures.specs.Axes.{place_behind, time_of}
-use Rattle.apex_pictures.specs.Places.{of_places}
+use Rattle.apex_moments.specs.Places.{of_places}
 use Rattle.apex_pictures.proofs.Apart.{place_is}
-use Rattle.apex_pictures.proofs.Places.{place_next}
+use Rattle.apex_moments.proofs.Places.{place_next}
 use Rattle.apex_pictures.proofs.Times.{time_rises}
 use Rattle.apex_pictures.proofs.axes.places_of.Goals as goal
 

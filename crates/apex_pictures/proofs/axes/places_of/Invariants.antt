@@ -1,7 +1,7 @@
 -- The places of the columns so far.
 use Rattle.std.proofs.Common.{◌≡◌, ◌+◌, ◌-◌}
 use Rattle.apex_pictures.specs.Axes.{place_behind}
-use Rattle.apex_pictures.specs.Places.{of_places}
+use Rattle.apex_moments.specs.Places.{of_places}
 use Rattle.apex_pictures.proofs.axes.places_of.Given as goal
 
 abbrev pub invariant-loop-column : goal.invariant-loop-column

@@ -1,6 +1,6 @@
 -- No entry is later than now.
 use Rattle.std.proofs.Common.{◌≡◌, ap, arith}
-use Rattle.apex_pictures.specs.Terms.{Entry}
+use Rattle.apex_moments.specs.Terms.{Entry}
 use Rattle.apex_pictures.proofs.Times.{found_before}
 use Rattle.apex_pictures.proofs.axes.time_of.Goals as goal
 

@@ -1,6 +1,6 @@
 -- The next text follows those before it.
 use Rattle.apex_pictures.specs.Svg.{heading_text}
-use Rattle.apex_pictures.proofs.Places.{text_next}
+use Rattle.apex_moments.proofs.Places.{text_next}
 use Rattle.apex_pictures.proofs.borders.put_headings.Goals as goal
 
 pub loop-core-preserved : goal.loop-core-preserved

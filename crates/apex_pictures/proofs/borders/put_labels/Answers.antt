@@ -1,6 +1,6 @@
 -- The next text follows those before it.
 use Rattle.apex_pictures.specs.Svg.{label_at}
-use Rattle.apex_pictures.proofs.Places.{text_next}
+use Rattle.apex_moments.proofs.Places.{text_next}
 use Rattle.apex_pictures.proofs.borders.put_labels.Goals as goal
 
 pub loop-place-preserved : goal.loop-place-preserved

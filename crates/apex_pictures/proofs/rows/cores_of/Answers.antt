@@ -2,7 +2,7 @@
 use Rattle.std.proofs.Common.{◌∙◌, ◌+◌, ap}
 use Rattle.std.specs.Prelude.{option_map}
 use Rattle.apex_pictures.specs.Rows.{core_of}
-use Rattle.apex_pictures.proofs.Places.{place_next}
+use Rattle.apex_moments.proofs.Places.{place_next}
 use Rattle.apex_pictures.proofs.rows.cores_of.Goals as goal
 
 pub loop-place-preserved : goal.loop-place-preserved

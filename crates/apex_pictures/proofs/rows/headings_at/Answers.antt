@@ -1,7 +1,7 @@
 -- The next one is put behind those so far.
 use Rattle.std.proofs.Common.{◌∙◌, ◌+◌, ap}
 use Rattle.apex_pictures.specs.Rows.{heading_at}
-use Rattle.apex_pictures.proofs.Places.{place_next}
+use Rattle.apex_moments.proofs.Places.{place_next}
 use Rattle.apex_pictures.proofs.rows.headings_at.Goals as goal
 
 pub loop-core-preserved : goal.loop-core-preserved

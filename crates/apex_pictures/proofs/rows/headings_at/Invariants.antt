@@ -1,7 +1,7 @@
 -- A heading for each core so far.
 use Rattle.std.proofs.Common.{◌≡◌}
 use Rattle.arrayvec.specs.ArrayVec.{array_vec_len}
-use Rattle.apex_pictures.specs.Places.{of_places}
+use Rattle.apex_moments.specs.Places.{of_places}
 use Rattle.apex_pictures.specs.Rows.{heading_at}
 use Rattle.apex_pictures.proofs.rows.headings_at.Given as goal
 

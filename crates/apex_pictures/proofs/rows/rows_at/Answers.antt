@@ -1,7 +1,7 @@
 -- The next one is put behind those so far.
 use Rattle.std.proofs.Common.{◌∙◌, ◌+◌, ap}
 use Rattle.apex_pictures.specs.Rows.{row_at}
-use Rattle.apex_pictures.proofs.Places.{place_next}
+use Rattle.apex_moments.proofs.Places.{place_next}
 use Rattle.apex_pictures.proofs.rows.rows_at.Goals as goal
 
 pub loop-place-preserved : goal.loop-place-preserved

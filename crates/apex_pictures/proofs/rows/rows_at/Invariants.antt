@@ -1,7 +1,7 @@
 -- A row for each process so far.
 use Rattle.std.proofs.Common.{◌≡◌, length}
 use Rattle.arrayvec.specs.ArrayVec.{array_vec_len}
-use Rattle.apex_pictures.specs.Places.{of_places}
+use Rattle.apex_moments.specs.Places.{of_places}
 use Rattle.apex_pictures.specs.Rows.{row_at}
 use Rattle.apex_pictures.proofs.rows.rows_at.Given as goal
 

@@ -2,7 +2,7 @@
 use Rattle.std.proofs.Common.{◌≡◌, length, Option}
 use Rattle.std.specs.Prelude.{option_map}
 use Rattle.arrayvec.specs.ArrayVec.{array_vec_len}
-use Rattle.apex_pictures.specs.Places.{of_places}
+use Rattle.apex_moments.specs.Places.{of_places}
 use Rattle.apex_pictures.specs.Rows.{is_chosen}
 use Rattle.apex_pictures.proofs.rows.rows_chosen.Given as goal
 

@@ -1,6 +1,6 @@
 -- The next text follows those before it.
 use Rattle.apex_pictures.specs.Svg.{cell_at}
-use Rattle.apex_pictures.proofs.Places.{text_next}
+use Rattle.apex_moments.proofs.Places.{text_next}
 use Rattle.apex_pictures.proofs.svg.put_cells.Goals as goal
 
 pub loop-place-preserved : goal.loop-place-preserved

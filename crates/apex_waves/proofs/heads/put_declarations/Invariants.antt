@@ -4,7 +4,7 @@ use Rattle.std.specs.Prelude.{flat_map}
 use Rattle.apex_types.specs.declared.limits.TheConstants.{MOST_PROCESSES}
 use Rattle.apex_waves.specs.Heads.{declaration_text}
 use Rattle.apex_waves.specs.Kinds.{count_of, signal_at}
-use Rattle.apex_waves.specs.Places.{of_places}
+use Rattle.apex_moments.specs.Places.{of_places}
 use Rattle.apex_waves.specs.declared.heads.TheConstants.{DECLARATION_ROOM}
 use Rattle.apex_waves.proofs.heads.put_declarations.Given as goal
 

@@ -1,7 +1,7 @@
 -- The line of the end has the time that the next moment would have.
 use Rattle.std.proofs.Common.{◌∙◌, ap, arith}
-use Rattle.apex_waves.specs.declared.instants.Instant.{Instant}
-use Rattle.apex_waves.proofs.NextInstants.{next_now, place_within}
+use Rattle.apex_moments.specs.declared.instants.Instant.{Instant}
+use Rattle.apex_moments.proofs.NextInstants.{next_now, place_within}
 use Rattle.apex_waves.proofs.printing.put_end.Goals as goal
 
 pub next-end-requires : goal.next-end-requires

@@ -4,13 +4,15 @@ use Rattle.std.specs.Prelude.{map}
 use Rattle.apex_machine.specs.Machine.{accept}
 use Rattle.apex_dispatch.specs.Kernel.{KernelState}
 use Rattle.apex_waves.specs.Dumps.{time_line}
-use Rattle.apex_waves.specs.Instants.{instant_after, units}
+use Rattle.apex_moments.specs.Instants.{instant_after}
+use Rattle.apex_waves.specs.Instants.{units}
 use Rattle.apex_waves.specs.Levels.{level_of}
 use Rattle.apex_waves.specs.Moments.{moment_in}
 use Rattle.apex_waves.specs.Printing.{IsAt}
-use Rattle.apex_waves.specs.declared.instants.Instant.{Instant}
+use Rattle.apex_moments.specs.declared.instants.Instant.{Instant}
 use Rattle.apex_waves.specs.declared.signals.Signal.{Signal}
-use Rattle.apex_waves.proofs.NextInstants.{instant_more, next_now, place_within}
+use Rattle.apex_moments.proofs.Pictured.{instant_more}
+use Rattle.apex_moments.proofs.NextInstants.{next_now, place_within}
 use Rattle.apex_waves.proofs.Nexts.{behind}
 use Rattle.apex_waves.proofs.Steps.{followed_machine, step_more}
 use Rattle.apex_waves.proofs.printing.put_event.Goals as goal

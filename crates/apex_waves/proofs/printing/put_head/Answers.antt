@@ -3,7 +3,7 @@ use Rattle.std.proofs.Common.{◌∙◌, ℕ, List, ◌++◌, ap, codes, sym}
 use Rattle.std.specs.Prelude.{flat_map, map}
 use Rattle.apex_machine.specs.Machine.{Machine}
 use Rattle.apex_waves.specs.Heads.{first_text, opening_text, scope_text}
-use Rattle.apex_waves.specs.Instants.{instant_after}
+use Rattle.apex_moments.specs.Instants.{instant_after}
 use Rattle.apex_waves.specs.Kinds.{of_kinds}
 use Rattle.apex_waves.specs.Levels.{level_of}
 use Rattle.apex_waves.specs.Moments.{moment_in}

@@ -3,7 +3,7 @@ use Rattle.std.proofs.Common.{◌≡◌, ◌+◌, ◌≤◌, ◌++◌}
 use Rattle.arrayvec.specs.ArrayVec.{array_vec_len}
 use Rattle.apex_types.specs.declared.limits.TheConstants.{MOST_PROCESSES}
 use Rattle.apex_waves.specs.Kinds.{count_of, signal_at}
-use Rattle.apex_waves.specs.Places.{of_places}
+use Rattle.apex_moments.specs.Places.{of_places}
 use Rattle.apex_waves.proofs.signals.add_signals.Given as goal
 
 abbrev pub invariant-loop-place : goal.invariant-loop-place

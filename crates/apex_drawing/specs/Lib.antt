@@ -1,0 +1,3 @@
+pub mod Styles
+pub mod Pictures
+pub mod Drawing

@@ -1,0 +1,8 @@
+//! The drawing of a partition's history while it runs, as SVG or as a trace.
+#![tactic(auto)]
+
+mod drawing;
+mod styles;
+
+pub use drawing::{DrawFault, draw};
+pub use styles::Style;

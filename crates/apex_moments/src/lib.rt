@@ -1,0 +1,24 @@
+//! What a partition's history says at each entry: the state of each process after it, the process
+//! that each core runs, the counts of the objects and the owners of the mutexes, and the instant of
+//! each moment. The words and the names for them are here too.
+#![tactic(auto)]
+
+mod counts;
+mod instants;
+mod kinds;
+mod laws;
+mod moments;
+mod names;
+mod texts;
+mod words;
+
+pub use counts::{Counts, counts_of};
+pub use instants::Instant;
+pub use kinds::{Kind, content_of, displayed_on, raised_of, value_of};
+pub use laws::{columns_say_entries, moments_are_in_order, texts_are_read_back};
+pub use moments::{CORES, Cell, Moment, is_process, moment_in, running_at, running_of, state_of};
+pub use names::{blackboard_name, buffer_name, event_flag_name, mutex_name, semaphore_name};
+pub use texts::{Part, put, put_all, put_bytes, put_number, put_xml};
+pub use words::{
+    code_word, deadline_word, id_part, name_of, notice_word, put_object, put_wait, state_word,
+};

@@ -1,0 +1,118 @@
+//! The words for states, waits and notices.
+ghost use Rattle.std.specs.Prelude.{◌≡◌, ◌≤◌, ◌++◌, length, OnOk};
+ghost use Rattle.apex_types.specs.declared.limits.TheConstants.{MOST_NAME};
+ghost use Rattle.apex_machine.specs.text.Texts.{id_text, process_name};
+ghost use Rattle.apex_moments.specs.Texts.{part_text};
+ghost use Rattle.apex_calls.specs.Lines.{code_text, deadline_text};
+ghost use Rattle.apex_machine.specs.text.Status.{state_text, wait_text};
+ghost use Rattle.apex_moments.specs.Words.{notice_word};
+
+use crate::texts::{Part, put, put_number};
+use apex_configs::Table;
+use apex_machine::Wait;
+use apex_types::{DeadlineType, Id, Notice, ProcessId, ReturnCode, State};
+use std::alloc::AllocError;
+
+/// The word for a state.
+pub fn state_word(state: State) -> &'static str
+    ensures value { result.now ≡ state_text state }
+    ensures short { length result.now ≤ 7 }
+{
+    match state {
+        State::Dormant => "DORMANT",
+        State::Ready => "READY",
+        State::Running => "RUNNING",
+        State::Waiting => "WAITING",
+    }
+}
+
+/// The word for the type of a deadline.
+pub fn deadline_word(deadline: DeadlineType) -> &'static str
+    ensures value { result.now ≡ deadline_text deadline }
+    ensures short { length result.now ≤ 14 }
+{
+    match deadline {
+        DeadlineType::Soft => "soft",
+        DeadlineType::Hard => "hard",
+    }
+}
+
+/// The word for a return code.
+pub fn code_word(code: ReturnCode) -> &'static str
+    ensures value { result.now ≡ code_text code }
+    ensures short { length result.now ≤ 14 }
+{
+    match code {
+        ReturnCode::NoError => "NO_ERROR",
+        ReturnCode::NoAction => "NO_ACTION",
+        ReturnCode::NotAvailable => "NOT_AVAILABLE",
+        ReturnCode::InvalidParam => "INVALID_PARAM",
+        ReturnCode::InvalidConfig => "INVALID_CONFIG",
+        ReturnCode::InvalidMode => "INVALID_MODE",
+        ReturnCode::TimedOut => "TIMED_OUT",
+    }
+}
+
+/// The word for a notice.
+pub fn notice_word(notice: &Notice) -> &'static str
+    ensures { result.now ≡ notice_word notice.now }
+{
+    match notice {
+        Notice::Woken(_, _) => "woken",
+        Notice::Released(_) => "released",
+        Notice::Missed(_, _) => "missed",
+    }
+}
+
+/// The name of a process; no byte if there is no such process.
+pub fn name_of(table: &Table, process: ProcessId) -> &[u8]
+    ensures value { result.now ≡ process_name table.now process }
+    ensures short { length result.now ≤ MOST_NAME }
+{
+    if process.place() < table.process_count() {
+        table.process(process).name().as_bytes()
+    } else {
+        &[]
+    }
+}
+
+/// The part that is the number of an id.
+pub fn id_part<'a, K: Copy>(id: Id<K>) -> Part<'a>
+    ensures { part_text result ≡ id_text id }
+{
+    Part::Number(u64::from(id.number()))
+}
+
+/// Puts the number of an id.
+pub(crate) fn put_id<K: Copy>(text: &mut Vec<u8>, id: Id<K>) -> Result<(), AllocError>
+    ensures { OnOk result (text.new.items ≡ text.old.items ++ id_text id) }
+{
+    put_number(text, u64::from(id.number()))
+}
+
+/// Puts a kind of objects and the number of one of them.
+#[tactic(auto, using(std::proofs::Common::append_assoc))]
+pub fn put_object<K: Copy>(text: &mut Vec<u8>, kind: &str, id: Id<K>) -> Result<(), AllocError>
+    ensures { OnOk result (text.new.items ≡ text.old.items ++ (kind.now ++ id_text id)) }
+{
+    put(text, kind)?;
+    put_id(text, id)
+}
+
+/// Puts the wait of a process.
+pub fn put_wait(text: &mut Vec<u8>, wait: &Wait) -> Result<(), AllocError>
+    ensures { OnOk result (text.new.items ≡ text.old.items ++ wait_text wait.now) }
+{
+    match wait {
+        Wait::Normal(_) => put(text, "normal"),
+        Wait::Start => put(text, "start"),
+        Wait::Time => put(text, "time"),
+        Wait::Period => put(text, "period"),
+        Wait::Semaphore(semaphore) => put_object(text, "semaphore:", *semaphore),
+        Wait::Receive(buffer) => put_object(text, "buffer:", *buffer),
+        Wait::Send(buffer, _) => put_object(text, "buffer:", *buffer),
+        Wait::Blackboard(blackboard) => put_object(text, "blackboard:", *blackboard),
+        Wait::EventFlag(event) => put_object(text, "event:", *event),
+        Wait::Mutex(mutex) => put_object(text, "mutex:", *mutex),
+    }
+}

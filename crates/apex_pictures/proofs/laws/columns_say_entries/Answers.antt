@@ -1,6 +1,0 @@
--- Each column says what holds after its entry.
-use Rattle.apex_pictures.proofs.Columns.{pictures}
-use Rattle.apex_pictures.proofs.laws.columns_say_entries.Goals as goal
-
-pub returns : goal.returns
-returns c = pictures

@@ -1,6 +1,0 @@
--- The moments of a run are in order.
-use Rattle.apex_pictures.proofs.Order.{in_order}
-use Rattle.apex_pictures.proofs.laws.moments_are_in_order.Goals as goal
-
-pub returns : goal.returns
-returns c = in_order

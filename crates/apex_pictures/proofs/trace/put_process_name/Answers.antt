@@ -1,7 +1,0 @@
--- The parts are those of the text.
-use Rattle.apex_pictures.specs.Trace.{process_name_text}
-use Rattle.apex_pictures.proofs.trace.put_process_name.Goals as goal
-
-pub returns : goal.returns
-unfolding process_name_text
-returns c = rw (c.id_part.ensures, c.id_part-2.ensures, c.id_part-3.ensures, c.name_of.ensures.value) at c.put_all.ensures

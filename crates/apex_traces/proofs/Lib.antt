@@ -1,0 +1,4 @@
+pub mod Counted
+pub mod SlicesWhole
+pub mod TracksShown
+pub mod Arrowed

@@ -1,0 +1,37 @@
+-- The next count is the object's, and the next text follows those before it.
+use Rattle.std.proofs.Common.{◌≡◌, ◌∙◌, ◌<◌, ◌++◌, ℕ, Option, Some, ap, arith, get_or, length, refl, sym}
+use Rattle.std.proofs.lemmas.Option.{slice_get-get_or}
+use Rattle.std.specs.Prelude.{slice_get}
+use Rattle.apex_traces.specs.Counters.{change_text, count_at}
+use Rattle.apex_moments.specs.Counts.{count_of, counts_in, object_count}
+use Rattle.apex_traces.proofs.Counted.{change_at}
+use Rattle.apex_moments.proofs.Places.{changed_at, kept_at, text_next}
+use Rattle.apex_traces.proofs.counters.add_kind.Goals as goal
+
+pub loop-place-preserved : goal.loop-place-preserved
+loop-place-preserved c =
+    let table = c.args.table.now in
+    let objects = c.args.objects.now in
+    let kind = c.args.kind in
+    let f = count_of objects kind in
+    let at = c.loop-place.invariant in
+    let place = c.loop-place.place in
+    let old = c.args.counts.now in
+    let within : place < object_count table kind = omega (arith, at.end, c.loop-place-test.true) in
+    let kept : place < length old = omega (arith, within, c.requires.many) in
+    let was : Some (get_or c.loop-place.counts place 0) ≡ slice_get old place =
+    ap Some (kept_at f place old _ 0 kept at.counts) ∙ sym (slice_get-get_or old place 0 kept) in
+    let count : c.count_of-count.result ≡ f place = c.count_of-count.ensures in
+    let text = c.loop-place.piece.items in
+    let put =
+    c.add_change.ensures.text
+    ∙ ap (λ (b : Option ℕ). text ++ change_text table c.args.time kind place b c.count_of-count.result) was
+    ∙ ap (λ (n : ℕ). text ++ change_text table c.args.time kind place (slice_get old place) n) count in
+    let change = change_at table c.args.time kind objects (slice_get old place) place within in
+    record {
+      end = at.end;
+      counts = changed_at f place old _ _ _ kept at.counts refl count;
+      text = text_next (count_at table c.args.time kind old (counts_in table objects kind)) place _ _ _ at.text
+          (put ∙ ap (λ l. text ++ l) change);
+      short = omega (arith, at.short, c.add_change.ensures.short);
+    }

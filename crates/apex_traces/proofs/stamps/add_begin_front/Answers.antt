@@ -1,0 +1,16 @@
+-- The digit of the group is in the text.
+use Rattle.std.proofs.Common.{◌∙◌, ◌++◌, ap}
+use Rattle.apex_traces.proofs.SlicesWhole.{begin_front_first, begin_front_second, begin_front_third}
+use Rattle.apex_traces.proofs.stamps.add_begin_front.Goals as goal
+
+pub returns-then-group-eq1-clause-text : goal.returns-then-group-eq1-clause-text
+returns-then-group-eq1-clause-text c =
+    c.add_text.ensures.text ∙ ap (λ l. c.args.piece.now.items ++ l) (begin_front_first c.args.group c.if-group-eq1.true)
+
+pub returns-then-group-eq2-clause-text : goal.returns-then-group-eq2-clause-text
+returns-then-group-eq2-clause-text c =
+    c.add_text-then-group-eq2.ensures.text ∙ ap (λ l. c.args.piece.now.items ++ l) (begin_front_second c.args.group c.if-group-eq2.true)
+
+pub returns-clause-text : goal.returns-clause-text
+returns-clause-text c =
+    c.add_text-2.ensures.text ∙ ap (λ l. c.args.piece.now.items ++ l) (begin_front_third c.args.group c.requires.group c.if-group-eq1.false c.if-group-eq2.false)

@@ -1,0 +1,53 @@
+-- The next core's process is its chosen one, and the next text follows those before it.
+use Rattle.std.proofs.Common.{◌≡◌, ◌∙◌, ◌<◌, None, arith, length, refl, set, sym}
+use Rattle.std.specs.Prelude.{slice_index_or, slice_set}
+use Rattle.apex_machine.specs.processes.Running.{chosen}
+use Rattle.apex_types.specs.declared.limits.TheConstants.{MOST_CORES}
+use Rattle.apex_moments.specs.Moments.{running_in, with_running}
+use Rattle.apex_traces.specs.Trace as trace
+use Rattle.apex_moments.proofs.Places.{changed_at, kept_at, place_of, same_at, text_next}
+use Rattle.apex_traces.proofs.trace.add_runs.Goals as goal
+
+pub loop-place-preserved : goal.loop-place-preserved
+loop-place-preserved g c =
+    let roster = g.S.Store.roster c.args.store.now in
+    let at = c.loop-place.invariant in
+    let place = c.loop-place.place in
+    let old = c.args.running.now in
+    let few : place < MOST_CORES = omega (arith, c.loop-place-test.true, c.cores-place-end.ensures.range.1) in
+    let kept : place < length old = omega (arith, few, c.requires.many) in
+    let before = c.index-running-from.result in
+    let was : before ≡ slice_index_or old place None =
+    (rw c.from.ensures at c.index-running-from.is) ∙ kept_at (chosen roster) place old _ before kept at.runs
+    ∙ same_at old place before None kept in
+    let now : c.chosen-after.result ≡ chosen roster place = rw c.new-core.ensures at c.chosen-after.ensures.value in
+    let is : c.chosen-after.result ≡ slice_index_or (running_in roster) place None =
+    now ∙ sym (place_of (chosen roster) MOST_CORES place None few) in
+    let put : slice_set c.loop-place.running c.from-in-loop-place.result c.chosen-after.result ≡ set c.loop-place.running place c.chosen-after.result =
+    rw c.from-in-loop-place.ensures refl in
+    record {
+      stamp = at.stamp;
+      end = at.end;
+      runs = changed_at (chosen roster) place old _ _ _ kept at.runs put now;
+      text = text_next (trace.core_at c.args.table.now c.args.time c.args.stamp.now.ticks (with_running old) (with_running (running_in roster))) place _ _ _ at.text
+          (rw (was, is, c.new-core.ensures) at c.add_core.ensures.text);
+      short = omega (arith, at.short, c.add_core.ensures.short);
+    }
+
+pub loop-place-2-preserved : goal.loop-place-2-preserved
+loop-place-2-preserved g c =
+    let roster = g.S.Store.roster c.args.store.now in
+    let at = c.loop-place-2.invariant in
+    let place = c.loop-place-2.place in
+    let old = c.args.running.now in
+    let few : place < MOST_CORES = omega (arith, c.loop-place-2-test.true) in
+    let kept : place < length old = omega (arith, few, c.requires.many) in
+    let now : c.chosen.result ≡ chosen roster place = rw c.new.ensures at c.chosen.ensures.value in
+    let put : slice_set c.loop-place-2.running c.from-in-loop-place-2.result c.chosen.result ≡ set c.loop-place-2.running place c.chosen.result =
+    rw c.from-in-loop-place-2.ensures refl in
+    record {
+      below = omega (arith, few);
+      runs = changed_at (chosen roster) place old _ _ _ kept at.runs put now;
+      text = at.text;
+      short = at.short;
+    }

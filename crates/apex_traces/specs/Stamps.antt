@@ -1,0 +1,32 @@
+-- The texts of a slice's end and of its beginning, before the number of its track and behind it.
+use Rattle.std.specs.Prelude.{◌≡◌, ◌⊎◌, ℕ, List, ◌++◌, codes, decimal}
+use Rattle.apex_traces.specs.Times.{time_text}
+use Rattle.apex_traces.specs.declared.stamps.Stamp.{Stamp}
+use Rattle.apex_traces.specs.declared.trace.Spot.{Spot}
+
+-- the end of a slice, up to the number of its track
+abbrev pub end_front : ℕ → List ℕ
+end_front group = codes ",\n{\"ph\":\"E\",\"pid\":" ++ decimal group ++ codes ",\"tid\":"
+
+-- the beginning of a slice, up to the number of its track
+abbrev pub begin_front : ℕ → List ℕ
+begin_front group = codes ",\n{\"ph\":\"B\",\"pid\":" ++ decimal group ++ codes ",\"tid\":"
+
+-- what is behind the number of a track at the beginning of a slice, up to its name
+abbrev pub begin_back : ℕ → ℕ → List ℕ
+begin_back time now =
+    codes ",\"ts\":" ++ time_text time ++ codes ",\"args\":{\"now\":" ++ decimal now
+    ++ codes "},\"name\":\""
+
+-- the stamp is of this time
+abbrev pub IsStamp : Stamp → ℕ → Type 0
+IsStamp stamp time =
+    (stamp.time ≡ time) × (stamp.begin.items ≡ begin_back time stamp.ticks)
+
+-- the group of the cores, of the processes or of the objects
+abbrev pub IsGroup : ℕ → Type 0
+IsGroup group = (group ≡ 1) ⊎ ((group ≡ 2) ⊎ (group ≡ 3))
+
+-- the stamp is of this time, on a track of a core, of a process or of an object
+abbrev pub Stamps : Stamp → Spot → Type 0
+Stamps stamp spot = IsGroup spot.group × IsStamp stamp spot.time

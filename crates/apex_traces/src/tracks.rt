@@ -1,0 +1,216 @@
+//! The processes and the counts after an entry, as a trace shows them.
+ghost use Rattle.std.specs.Prelude.{◌≡◌, ◌<◌, ◌≤◌, ◌++◌, IsTrue, length, map, slice_index_or, OnOk};
+ghost use Rattle.apex_types.specs.declared.limits.TheConstants.{MOST_CORES, MOST_PROCESSES};
+ghost use Rattle.apex_calls.specs.Lines.{IsPrintable};
+ghost use Rattle.apex_machine.specs.processes.Roster.{record_at};
+ghost use Rattle.apex_moments.specs.Counts.{HasCounts, counts_of};
+ghost use Rattle.apex_moments.specs.Moments.{moment_in, moment_of, running_in};
+ghost use Rattle.apex_traces.specs.Stamps.{IsStamp};
+ghost use Rattle.apex_traces.specs.Trace.{column_text};
+ghost use Rattle.apex_traces.specs.Tracks.{bare, cell_on, track_of};
+ghost use Rattle.apex_traces.specs.declared.beings.Being.TheVariants.{Dormant};
+
+use crate::beings::{Being, being_of, is_awaiting};
+use crate::calls::{Said, Span};
+use crate::changes::add_changes;
+use crate::pieces::Piece;
+use crate::stamps::{Stamp, Timed};
+use crate::trace::{add_call, add_notices, add_processes, add_runs};
+use apex_configs::Table;
+use apex_dispatch::{Kernel, Objects};
+use apex_machine::Record;
+use apex_moments::{
+    CORES, Counts, counts_of, is_process, put_bytes, running_at, running_of, state_of,
+};
+use apex_store::Store;
+use apex_types::{LentEntry, MOST_CORES, MOST_PROCESSES, ProcessId, State};
+use arrayvec::ArrayVec;
+use std::alloc::AllocError;
+use std::marker::Model;
+
+/// All processes after an entry, as a trace shows them: what the slice of each of them shows, and the
+/// process that each core runs. It has the counts of the objects too.
+///
+/// A contract sees a moment whose cells show no more than that.
+#[derive(Drop)]
+pub struct Tracks {
+    tracks: ArrayVec<Being, MOST_PROCESSES>,
+    running: ArrayVec<Option<ProcessId>, CORES>,
+    counts: Counts,
+    /// The column of an entry, before it is put.
+    piece: Piece,
+    said: Said,
+    /// The time after the latest column.
+    latest: Timed,
+}
+
+impl Model for Tracks {
+    ghost use Rattle.std.specs.Prelude.{map};
+    ghost use Rattle.apex_moments.specs.Moments.{Shown};
+    ghost use Rattle.apex_traces.specs.Tracks.{cell_on};
+
+    ghost Value = { Shown };
+
+    ghost view = { λ t. record {
+      cells = map cell_on t.tracks.items;
+      running = t.running.items;
+      counts = t.counts;
+    } };
+}
+
+/// What the track of the process of this record shows, given the process that each core runs.
+#[inline(always)]
+pub(crate) fn track_by<S: Store>(
+    store: &S,
+    process: ProcessId,
+    fields: &Record,
+    running: &[Option<ProcessId>],
+) -> Being
+    requires fields { fields.now ≡ record_at (S.roster store.now) process }
+    requires running { running.now ≡ running_in (S.roster store.now) }
+    ensures { result ≡ track_of (S.roster store.now) process }
+{
+    prove!(u32::from(fields.core.number()) < MOST_CORES);
+    being_of(
+        state_of(process, fields, store.mode(), running),
+        &fields.wait,
+    )
+}
+
+/// The track of the process of this record still shows this. It looks at no more of the record than
+/// that takes; if it answers no, the track may show it too.
+#[inline(always)]
+pub(crate) fn is_still<S: Store>(
+    store: &S,
+    process: ProcessId,
+    fields: &Record,
+    running: &[Option<ProcessId>],
+    being: &Being,
+) -> bool
+    requires fields { fields.now ≡ record_at (S.roster store.now) process }
+    requires running { running.now ≡ running_in (S.roster store.now) }
+    ensures { IsTrue result → track_of (S.roster store.now) process ≡ being.now }
+{
+    prove!(u32::from(fields.core.number()) < MOST_CORES);
+    match being {
+        Being::Dormant => !fields.started,
+        Being::Ready => matches!(
+            state_of(process, fields, store.mode(), running),
+            State::Ready
+        ),
+        Being::Running => is_process(process, running_at(running, fields.core)),
+        _ => is_awaiting(being, &fields.wait) && fields.started,
+    }
+}
+
+/// The tracks of the processes of a store, and these counts.
+fn tracks_of<S: Store>(store: &S, counts: Counts) -> Tracks
+    requires { length (S.roster store.now).records ≤ MOST_PROCESSES }
+    ensures { result ≡ bare (moment_of (S.roster store.now) counts) }
+{
+    let running = running_of(store);
+    let mut tracks = ArrayVec::new();
+    for place in 0..store.process_count() {
+        let process = ProcessId::at(place as u8);
+        let fields = store.record(process);
+        tracks.push(track_by(store, process, fields, running.as_slice()));
+    }
+    Tracks {
+        tracks,
+        running,
+        counts,
+        piece: Piece::new(),
+        said: Said::new(),
+        latest: Timed::new(0),
+    }
+}
+
+/// The tracks of a kernel.
+pub fn tracks_in<S: Store>(kernel: &Kernel<S>) -> Tracks
+    ensures { result ≡ bare (moment_in kernel.now.table kernel.now.machine) }
+{
+    kernel.holds();
+    tracks_of(kernel.store(), counts_of(kernel))
+}
+
+/// What the track at a place shows; DORMANT if there is no such track.
+#[inline(always)]
+pub(crate) fn track_at(tracks: &[Being], place: usize) -> Being
+    ensures { result ≡ slice_index_or tracks.now place Dormant }
+{
+    match tracks.get(place) {
+        Some(track) => *track,
+        None => Being::Dormant,
+    }
+}
+
+impl Tracks {
+    /// Brings the tracks and the counts up to the processes of a store and these objects, and puts
+    /// the column of the latest entry.
+    #[tactic(auto, using(std::proofs::Common::append_assoc))]
+    pub(crate) fn put_column<S: Store>(
+        &mut self,
+        text: &mut Vec<u8>,
+        table: &Table,
+        objects: &Objects,
+        store: &S,
+        span: Span,
+        entry: &LentEntry<'_>,
+    ) -> Result<(), AllocError>
+        requires printable { IsPrintable table.now entry.now }
+        requires counts { HasCounts self.old.counts table.now }
+        requires cores { length self.old.running ≡ MOST_CORES }
+        requires tracks { length self.old.cells ≡ length (S.roster store.now).records }
+        requires table { length table.now.processes ≡ length (S.roster store.now).records }
+        ensures text { OnOk result (text.new.items ≡ text.old.items
+            ++ column_text table.now span self.old entry.entry.now
+            (bare (moment_of (S.roster store.now)
+            (counts_of table.now (S.roster store.now) objects.now)))) }
+        ensures shown { self.new ≡ bare (moment_of (S.roster store.now)
+            (counts_of table.now (S.roster store.now) objects.now)) }
+    {
+        let time = span.end;
+        let stamp = Stamp::new(time, entry.now);
+        self.latest.reach(span.begin);
+        self.piece.clear();
+        add_call(
+            &mut self.piece,
+            &mut self.said,
+            table,
+            store,
+            span,
+            &self.latest,
+            entry,
+        );
+        let running = self.running.as_mut_slice();
+        add_runs(&mut self.piece, table, store, time, &stamp, running);
+        let (running, tracks) = (self.running.as_slice(), self.tracks.as_mut_slice());
+        add_processes(&mut self.piece, table, store, running, time, &stamp, tracks);
+        let counts = &mut self.counts;
+        add_changes(counts, &mut self.piece, table, objects, store, time, &stamp);
+        add_notices(&mut self.piece, store, time, &stamp, entry);
+        self.latest = stamp.into_time();
+        put_bytes(text, self.piece.as_slice())
+    }
+
+    /// The tracks of the processes.
+    pub(crate) fn tracks(&self) -> &[Being]
+        ensures { map cell_on result.now ≡ self.now.cells }
+    {
+        self.tracks.as_slice()
+    }
+
+    /// The process that each core runs.
+    pub(crate) fn running(&self) -> &[Option<ProcessId>]
+        ensures { result.now ≡ self.now.running }
+    {
+        self.running.as_slice()
+    }
+
+    /// The counts of the objects.
+    pub(crate) fn counts(&self) -> &Counts
+        ensures { result.now ≡ self.now.counts }
+    {
+        &self.counts
+    }
+}
