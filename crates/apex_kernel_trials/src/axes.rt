@@ -6,8 +6,8 @@ ghost use Rattle.apex_machine.specs.Machine.{opening};
 
 use crate::scans::booted;
 use apex_dispatch::Kernel;
-use apex_history::Counted;
 use apex_drawing::{Style, draw};
+use apex_history::Counted;
 use apex_pictures::{Extent, Frame, Side};
 use apex_process::QueueStore;
 use apex_scales::Axis;

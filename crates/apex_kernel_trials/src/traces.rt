@@ -2,8 +2,8 @@
 //! the arrows of its notices.
 
 use crate::scans::booted;
-use apex_history::Counted;
 use apex_drawing::{Style, draw};
+use apex_history::Counted;
 use apex_scales::TickLength;
 use apex_table::read_table;
 use apex_types::{CoreId, Event};
