@@ -7,8 +7,9 @@ use Rattle.apex_history.specs.Ports.{Ports}
 use Rattle.apex_history.specs.declared.ReadFault.{ReadFault}
 use Rattle.apex_history.specs.declared.ReadFault.TheVariants as read
 use Rattle.apex_lab.specs.Ends.{fails}
-use Rattle.apex_lab.specs.Lints.{Lint, LintEnds, no_memory, unread}
+use Rattle.apex_lab.specs.Lints.{LintEnds, no_memory, unread}
 use Rattle.apex_lab.specs.declared.faults.LabFault.TheVariants.{Common}
+use Rattle.apex_tasks.specs.Lints.{Lint}
 
 -- bytes that were not read
 pub lint_unread : {lint : Lint} {before after : Ports} (fault : ReadFault)
