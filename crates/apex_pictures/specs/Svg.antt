@@ -13,7 +13,8 @@ use Rattle.apex_types.specs.declared.entries.Notice.TheVariants.{Woken, Released
 use Rattle.apex_types.specs.declared.entries.Reply.TheVariants.{Advanced}
 use Rattle.apex_moments.specs.Moments.{Shown, no_cell}
 use Rattle.apex_pictures.specs.Rows.{selection_of}
-use Rattle.apex_moments.specs.Terms.{Caller, Cell, Entry, Notice, Reply, Wait}
+use Rattle.apex_moments.specs.Terms.{Caller, Entry, Notice, Reply, Wait}
+use Rattle.apex_moments.specs.declared.moments.Cell.{Cell}
 use Rattle.apex_moments.specs.Texts.{texts, xml_text}
 use Rattle.apex_moments.specs.Words.{notice_word}
 use Rattle.apex_pictures.specs.declared.excerpts.Excerpt.{Excerpt}

@@ -11,7 +11,8 @@ use Rattle.apex_traces.specs.Beings.{awaiting, being_in, being_of, is_begun}
 use Rattle.apex_moments.specs.Moments.{cell_of, no_cell, with_cells}
 use Rattle.apex_moments.specs.Places.{of_places}
 use Rattle.apex_moments.specs.Words.{notice_word}
-use Rattle.apex_moments.specs.Terms.{Cell, Notice, Wait}
+use Rattle.apex_moments.specs.Terms.{Notice, Wait}
+use Rattle.apex_moments.specs.declared.moments.Cell.{Cell}
 use Rattle.apex_types.specs.declared.entries.Notice.TheVariants.{Woken, Released, Missed}
 use Rattle.apex_traces.specs.Tracks.{bare_cell, bare_cells}
 use Rattle.apex_moments.proofs.Places.{length_of}

@@ -16,7 +16,8 @@ use Rattle.apex_traces.specs.Calls.{call_of}
 use Rattle.apex_moments.specs.Counts.{Counts}
 use Rattle.apex_moments.specs.Moments.{Shown, cell_of, moment_of, no_cell, none_shown, running_in}
 use Rattle.apex_moments.specs.Places.{of_places}
-use Rattle.apex_moments.specs.Terms.{Caller, Cell, Entry, Notice, State}
+use Rattle.apex_moments.specs.Terms.{Caller, Entry, Notice, State}
+use Rattle.apex_moments.specs.declared.moments.Cell.{Cell}
 use Rattle.apex_traces.specs.Trace as trace
 use Rattle.apex_traces.specs.Tracks.{bare, bare_cell, bare_cells, cell_on, track_of}
 use Rattle.apex_moments.specs.Words.{notice_word}

@@ -5,7 +5,8 @@ use Rattle.apex_machine.specs.declared.records.Wait.TheVariants as waits
 use Rattle.apex_machine.specs.table.Table.{Table}
 use Rattle.apex_machine.specs.text.Status.{state_text}
 use Rattle.apex_machine.specs.text.Texts.{semaphore_name, buffer_name, blackboard_name, event_flag_name, mutex_name}
-use Rattle.apex_moments.specs.Terms.{Cell, State, Wait}
+use Rattle.apex_moments.specs.Terms.{State, Wait}
+use Rattle.apex_moments.specs.declared.moments.Cell.{Cell}
 use Rattle.apex_traces.specs.declared.beings.Being.{Being}
 use Rattle.apex_traces.specs.declared.beings.Being.TheVariants.{Dormant, Ready, Running, Waiting, Normal, Start, Time, Period, Semaphore, Buffer, Blackboard, EventFlag, Mutex}
 use Rattle.apex_types.specs.declared.modes.State.TheVariants as states

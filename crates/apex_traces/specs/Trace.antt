@@ -16,7 +16,8 @@ use Rattle.apex_traces.specs.Times.{time_text}
 use Rattle.apex_moments.specs.Moments.{Shown, no_cell, none_shown}
 use Rattle.apex_traces.specs.Stamps.{begin_back}
 use Rattle.apex_moments.specs.Texts.{texts}
-use Rattle.apex_moments.specs.Terms.{Cell, Entry, Notice}
+use Rattle.apex_moments.specs.Terms.{Entry, Notice}
+use Rattle.apex_moments.specs.declared.moments.Cell.{Cell}
 use Rattle.apex_traces.specs.Beings.{being_in, being_name, is_begun, same_being}
 use Rattle.apex_traces.specs.declared.beings.Being.{Being}
 use Rattle.apex_json.specs.Strings.{json_text}

@@ -2,7 +2,8 @@
 use Rattle.std.specs.Prelude.{ℕ, List, [], length, map, Option, None, Some}
 use Rattle.apex_moments.specs.Moments.{Shown, cell_of}
 use Rattle.apex_moments.specs.Places.{of_places}
-use Rattle.apex_moments.specs.Terms.{Cell, State, Wait}
+use Rattle.apex_moments.specs.Terms.{State, Wait}
+use Rattle.apex_moments.specs.declared.moments.Cell.{Cell}
 use Rattle.apex_traces.specs.declared.beings.Being.{Being}
 use Rattle.apex_traces.specs.declared.beings.Being.TheVariants.{Dormant, Ready, Running, Waiting, Normal, Start, Time, Period, Semaphore, Buffer, Blackboard, EventFlag, Mutex}
 use Rattle.apex_traces.specs.Beings.{being_in, being_of}
