@@ -36,7 +36,7 @@ end_time tick machine =
 abbrev pub foot_text : Style → Table → Machine → List ℕ
 foot_text (Svg frame) table machine = svg.foot_text table frame
 foot_text (Trace tick) table machine =
-    trace.foot_text table (end_time tick machine) machine.roster.now (moment_in table machine)
+    trace.foot_text table (end_time tick machine) (moment_in table machine)
 
 -- the columns of a machine's picture
 abbrev pub columns_text : Style → Table → Machine → List ℕ

@@ -86,7 +86,7 @@ fn put_foot<S: Store>(
         Style::Trace(tick) => {
             kernel.holds();
             let end = instant.next(kernel.now());
-            apex_traces::put_foot(text, kernel.table(), end.time(*tick), kernel.now(), last)
+            apex_traces::put_foot(text, kernel.table(), end.time(*tick), last)
         }
     }
 }

@@ -1,5 +1,5 @@
-//! The counters of a trace, the slices of its processes, its mutexes and its calls, and the marks and
-//! the arrows of its notices.
+//! What a trace says of itself, its counters, the slices of its processes, its mutexes and its calls,
+//! and the marks and the arrows of its notices.
 
 use crate::scans::booted;
 use apex_drawing::{Style, draw};
@@ -116,18 +116,18 @@ const MUTEX: &str = "\"pid\":3,\"tid\":1,\"ts\":";
 
 /// What follows that in each of these lines: the last slice ends behind the last of 16 entries.
 const MUTEX_SLICES: [&str; 4] = [
-    r#"12,"args":{"now":0},"name":"LOW"},"#,
+    r#"12,"name":"LOW"},"#,
     r#"15},"#,
-    r#"16,"args":{"now":0},"name":"HIGH"},"#,
+    r#"16,"name":"HIGH"},"#,
     r#"17}"#,
 ];
 
 /// The same with ticks of 250 microseconds: each moment lies a quarter of a microsecond behind the one
 /// before it.
 const SHORT_MUTEX_SLICES: [&str; 4] = [
-    r#"3,"args":{"now":0},"name":"LOW"},"#,
+    r#"3,"name":"LOW"},"#,
     r#"3.75},"#,
-    r#"4,"args":{"now":0},"name":"HIGH"},"#,
+    r#"4,"name":"HIGH"},"#,
     r#"4.25}"#,
 ];
 
@@ -137,20 +137,20 @@ const HIGH: &str = "\"pid\":2,\"tid\":1,\"ts\":";
 /// What follows that in each of these lines: slices of states and of calls, marks, and the ends of
 /// arrows. HIGH is started in COLD_START, by entry 8.
 const HIGH_TRACK: [&str; 16] = [
-    r#"8,"args":{"now":0},"name":"WAITING for normal"},"#,
+    r#"8,"name":"WAITING for normal"},"#,
     r#"10},"#,
-    r#"10,"args":{"now":0},"name":"RUNNING"},"#,
-    r#"10,"args":{"now":0},"name":"released"},"#,
+    r#"10,"name":"RUNNING"},"#,
+    r#"10,"name":"released"},"#,
     r#"10,"cat":"notice","id":1280,"name":"released"},"#,
     r#"10,"dur":1,"args":{"entry":11,"reply":"BLOCKED"},"name":"WAIT_EVENT E infinite"},"#,
     r#"11},"#,
-    r#"11,"args":{"now":0},"name":"WAITING for event E"},"#,
+    r#"11,"name":"WAITING for event E"},"#,
     r#"14},"#,
-    r#"14,"args":{"now":0},"name":"READY"},"#,
-    r#"14,"args":{"now":0},"name":"woken NO_ERROR"},"#,
+    r#"14,"name":"READY"},"#,
+    r#"14,"name":"woken NO_ERROR"},"#,
     r#"14,"cat":"notice","id":1792,"name":"woken"},"#,
     r#"15},"#,
-    r#"15,"args":{"now":0},"name":"RUNNING"},"#,
+    r#"15,"name":"RUNNING"},"#,
     r#"15,"dur":1,"args":{"entry":16,"reply":"NO_ERROR"},"name":"ACQUIRE_MUTEX M infinite"},"#,
     r#"17}"#,
 ];
@@ -161,9 +161,9 @@ const MARK: &str = "\"ph\":\"i\"";
 /// What follows that in each of these lines. Both processes are released by entry 8, and LOW wakes HIGH
 /// by entry 10.
 const MARKS: [&str; 3] = [
-    r#","s":"t","pid":2,"tid":1,"ts":8,"args":{"now":0},"name":"released"},"#,
-    r#","s":"t","pid":2,"tid":2,"ts":8,"args":{"now":0},"name":"released"},"#,
-    r#","s":"t","pid":2,"tid":1,"ts":10,"args":{"now":0},"name":"woken NO_ERROR"},"#,
+    r#","pid":2,"tid":1,"ts":8,"name":"released"},"#,
+    r#","pid":2,"tid":2,"ts":8,"name":"released"},"#,
+    r#","pid":2,"tid":1,"ts":10,"name":"woken NO_ERROR"},"#,
 ];
 
 /// By this a line of the trace is the slice of a call.
@@ -207,6 +207,29 @@ const HEADS: [&str; 3] = [
     r#","bp":"e","pid":2,"tid":1,"ts":10,"cat":"notice","id":1280,"name":"woken"},"#,
 ];
 
+/// By this a line of the trace is its first one.
+const OTHER: &str = "\"otherData\":";
+
+/// What follows that: the program, its version, and the profile of a table that gives none.
+const OTHERS: [&str; 1] = [r#"{"program":"apex","version":"0.6.0","profile":1},"traceEvents":["#];
+
+/// What follows that for a table of profile 2.
+const OTHERS_OF_TWO: [&str; 1] = [
+    r#"{"program":"apex","version":"0.6.0","profile":2},"traceEvents":["#,
+];
+
+/// A process that waits for nothing, in a table of profile 2.
+const PROFILE_TABLE: &str = r#"
+profile = 2
+cores = 1
+
+[[process]]
+name = "P"
+priority = 10
+start = true
+script = []
+"#;
+
 /// The trace of 16 turns, with ticks of this many microseconds.
 fn trace_of<R: Abort>(rt: &R, alloc: Global, table: &str, tick: u32) -> Vec<u8> {
     let table = read_table(alloc, table.as_bytes()).expect(rt, "the table is lawful");
@@ -231,7 +254,9 @@ fn behind<'t>(text: &'t str, word: &str) -> Option<&'t str> {
 
 /// Tables, each with the length of a tick in microseconds, the word by which a line of the trace is of a
 /// kind, and what follows it in these lines.
-const TRACES: [(&str, u32, &str, &[&str]); 9] = [
+const TRACES: [(&str, u32, &str, &[&str]); 11] = [
+    (TABLE, 1_000, OTHER, &OTHERS),
+    (PROFILE_TABLE, 1_000, OTHER, &OTHERS_OF_TWO),
     (TABLE, 1_000, COUNTER, &COUNTERS),
     (OBJECTS_TABLE, 1_000, COUNTER, &OBJECT_COUNTERS),
     (OBJECTS_TABLE, 1_000, MUTEX, &MUTEX_SLICES),

@@ -20,5 +20,6 @@ pub use moments::{CORES, Cell, Moment, is_process, moment_in, running_at, runnin
 pub use names::{blackboard_name, buffer_name, event_flag_name, mutex_name, semaphore_name};
 pub use texts::{Part, put, put_all, put_bytes, put_number, put_xml};
 pub use words::{
-    code_word, deadline_word, id_part, name_of, notice_word, put_object, put_wait, state_word,
+    code_word, deadline_word, id_part, name_of, notice_word, profile_number, put_object, put_wait,
+    state_word,
 };

@@ -5,11 +5,11 @@ ghost use Rattle.apex_machine.specs.text.Texts.{id_text, process_name};
 ghost use Rattle.apex_moments.specs.Texts.{part_text};
 ghost use Rattle.apex_calls.specs.Lines.{code_text, deadline_text};
 ghost use Rattle.apex_machine.specs.text.Status.{state_text, wait_text};
-ghost use Rattle.apex_moments.specs.Words.{notice_word};
+ghost use Rattle.apex_moments.specs.Words.{notice_word, profile_number};
 
 use crate::texts::{Part, put, put_number};
 use apex_configs::Table;
-use apex_machine::Wait;
+use apex_machine::{Profile, Wait};
 use apex_types::{DeadlineType, Id, Notice, ProcessId, ReturnCode, State};
 use std::alloc::AllocError;
 
@@ -61,6 +61,16 @@ pub fn notice_word(notice: &Notice) -> &'static str
         Notice::Woken(_, _) => "woken",
         Notice::Released(_) => "released",
         Notice::Missed(_, _) => "missed",
+    }
+}
+
+/// The number of a profile, as a table gives it: 1 or 2.
+pub fn profile_number(profile: Profile) -> u64
+    ensures { result ≡ profile_number profile }
+{
+    match profile {
+        Profile::One => 1,
+        Profile::Two => 2,
     }
 }
 

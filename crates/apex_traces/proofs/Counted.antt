@@ -65,7 +65,7 @@ five_behind text a b c d e one two three four whole v w x y z =
     ∙ append_assoc text (a ++ b ++ c ++ d) e
 
 -- the changes of each kind, and then those on the tracks of the mutexes
-pub objects_whole : (table : Table) (time now : ℕ) (before : Counts) (roster : Roster) (objects : Objects)
+pub objects_whole : (table : Table) (time : ℕ) (before : Counts) (roster : Roster) (objects : Objects)
     (values contents displays flags : List ℕ) (owners : List (Option ℕ)) (text one two three four whole : List ℕ)
     → values ≡ before.values → contents ≡ before.contents → displays ≡ before.displays → flags ≡ before.flags
     → owners ≡ before.owners
@@ -73,16 +73,16 @@ pub objects_whole : (table : Table) (time now : ℕ) (before : Counts) (roster :
     → two ≡ one ++ kind_text table time Buffer contents (counts_in table objects Buffer)
     → three ≡ two ++ kind_text table time Blackboard displays (counts_in table objects Blackboard)
     → four ≡ three ++ kind_text table time EventFlag flags (counts_in table objects EventFlag)
-    → whole ≡ four ++ mutexes_text table time now owners (owners_in table roster)
-    → whole ≡ text ++ objects_text table time now before (counts_of table roster objects)
+    → whole ≡ four ++ mutexes_text table time owners (owners_in table roster)
+    → whole ≡ text ++ objects_text table time before (counts_of table roster objects)
 unfolding counts_of
-objects_whole table time now before roster objects values contents displays flags owners text one two three four whole
+objects_whole table time before roster objects values contents displays flags owners text one two three four whole
     value content display flag owned first second third fourth fifth =
     five_behind text (kind_text table time Semaphore before.values (counts_in table objects Semaphore))
     (kind_text table time Buffer before.contents (counts_in table objects Buffer))
     (kind_text table time Blackboard before.displays (counts_in table objects Blackboard))
     (kind_text table time EventFlag before.flags (counts_in table objects EventFlag))
-    (mutexes_text table time now before.owners (owners_in table roster)) one two three four whole
+    (mutexes_text table time before.owners (owners_in table roster)) one two three four whole
     (rw value at first) (rw content at second) (rw display at third) (rw flag at fourth) (rw owned at fifth)
 
 -- counts of these

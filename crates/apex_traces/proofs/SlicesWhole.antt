@@ -91,35 +91,31 @@ end_whole spot text first second third after w x y z =
     ∙ append_assoc e group (tid ++ (track ++ (ts ++ (time ++ codes "}")))))
 
 -- the beginning of a slice
-pub begin_whole : (spot : Spot) (now : ℕ) (text first second after : List ℕ) → first ≡ text ++ begin_front spot.group
-    → second ≡ first ++ decimal spot.track → after ≡ second ++ begin_back spot.time now
-    → after ≡ text ++ begin_text spot now
+pub begin_whole : (spot : Spot) (text first second third after : List ℕ) → first ≡ text ++ begin_front spot.group
+    → second ≡ first ++ decimal spot.track → third ≡ second ++ time_back spot.time → after ≡ third ++ codes ",\"name\":\""
+    → after ≡ text ++ begin_text spot
 unfolding begin_text
-begin_whole spot now text first second after x y z =
+begin_whole spot text first second third after w x y z =
     let b = codes ",\n{\"ph\":\"B\",\"pid\":" in
     let tid = codes ",\"tid\":" in
     let ts = codes ",\"ts\":" in
-    let args = codes ",\"args\":{\"now\":" in
-    let name = codes "},\"name\":\"" in
+    let name = codes ",\"name\":\"" in
     let group = decimal spot.group in
     let track = decimal spot.track in
     let time = time_text spot.time in
-    let ticks = decimal now in
-    let whole = ts ++ (time ++ (args ++ (ticks ++ name))) in
-    let rest : begin_back spot.time now ≡ whole =
-    append_assoc (ts ++ time ++ args) ticks name ∙ append_assoc (ts ++ time) args (ticks ++ name)
-    ∙ append_assoc ts time (args ++ (ticks ++ name)) in
-    behind text (begin_front spot.group) track (begin_back spot.time now) after first second x y z
+    let rest : time_back spot.time ++ name ≡ ts ++ (time ++ name) = append_assoc ts time name in
+    let back : after ≡ second ++ (time_back spot.time ++ name) =
+    z ∙ ap (λ l. l ++ name) y ∙ append_assoc second (time_back spot.time) name in
+    behind text (begin_front spot.group) track (time_back spot.time ++ name) after first second w x back
     ∙ ap (λ l. text ++ (begin_front spot.group ++ (track ++ l))) rest
-    ∙ ap (λ l. text ++ l) (append_assoc (b ++ group) tid (track ++ whole)
-    ∙ append_assoc b group (tid ++ (track ++ whole)))
+    ∙ ap (λ l. text ++ l) (append_assoc (b ++ group) tid (track ++ (ts ++ (time ++ name)))
+    ∙ append_assoc b group (tid ++ (track ++ (ts ++ (time ++ name)))))
 
--- the stamp's text of the beginning of a slice
-pub stamp_whole : (time now : ℕ) (first second third whole : List ℕ) → first ≡ time_back time
-    → second ≡ first ++ codes ",\"args\":{\"now\":" → third ≡ second ++ decimal now → whole ≡ third ++ codes "},\"name\":\""
-    → whole ≡ begin_back time now
-stamp_whole time now first second third whole w x y z =
-    z ∙ ap (λ l. l ++ codes "},\"name\":\"") (y ∙ ap (λ l. l ++ decimal now) (x ∙ ap (λ l. l ++ codes ",\"args\":{\"now\":") w))
+-- the time and the name of a mark, behind the number of its track
+pub mark_back : (time : ℕ) (first second third : List ℕ) → second ≡ first ++ time_back time
+    → third ≡ second ++ codes ",\"name\":\"" → third ≡ first ++ begin_back time
+mark_back time first second third x y =
+    y ∙ ap (λ l. l ++ codes ",\"name\":\"") x ∙ append_assoc first (time_back time) (codes ",\"name\":\"")
 
 -- the arguments and the name of the slice of a call
 pub said_whole : (number : ℕ) (reply asked text first second third fourth fifth sixth whole : List ℕ)

@@ -101,21 +101,21 @@ texts_same f g zero same = refl
 texts_same f g (suc n) same =
     ap (λ l. l ++ f n) (texts_same f g n same) ∙ ap (λ l. texts_of g n ++ l) (same n)
 
-process_same : (table : Table) (time now : ℕ) (before after : Shown) (p : ℕ)
-    → trace.process_at table time now (bare before) (bare after) p ≡ trace.process_at table time now before after p
-process_same table time now before after p =
-    ap (λ (b : Being). trace.process_text table (trace.process_spot p time) now b (being_in (trace.cell_at (bare after) p)))
+process_same : (table : Table) (time : ℕ) (before after : Shown) (p : ℕ)
+    → trace.process_at table time (bare before) (bare after) p ≡ trace.process_at table time before after p
+process_same table time before after p =
+    ap (λ (b : Being). trace.process_text table (trace.process_spot p time) b (being_in (trace.cell_at (bare after) p)))
     (being_bare before.cells p)
-    ∙ ap (λ (b : Being). trace.process_text table (trace.process_spot p time) now (being_in (trace.cell_at before p)) b)
+    ∙ ap (λ (b : Being). trace.process_text table (trace.process_spot p time) (being_in (trace.cell_at before p)) b)
     (being_bare after.cells p)
 
 -- the changes on all tracks
-changes_same : (table : Table) (time now : ℕ) (before after : Shown)
-    → trace.changes_text table time now (bare before) (bare after) ≡ trace.changes_text table time now before after
-changes_same table time now before after =
-    ap (λ l. texts_of (trace.core_at table time now before after) table.cores ++ l)
-    (texts_same (trace.process_at table time now (bare before) (bare after)) (trace.process_at table time now before after)
-    (length table.processes) (process_same table time now before after))
+changes_same : (table : Table) (time : ℕ) (before after : Shown)
+    → trace.changes_text table time (bare before) (bare after) ≡ trace.changes_text table time before after
+changes_same table time before after =
+    ap (λ l. texts_of (trace.core_at table time before after) table.cores ++ l)
+    (texts_same (trace.process_at table time (bare before) (bare after)) (trace.process_at table time before after)
+    (length table.processes) (process_same table time before after))
 
 -- a process has a slice
 slice_same : (shown : Shown) (p : ℕ) → has_slice (bare shown) p ≡ has_slice shown p
@@ -157,7 +157,7 @@ pub notices_same : (time : ℕ) (entry : Entry) (one other : Shown) → ((p : �
 notices_same time entry one other same =
     let number = entry.number in
     let notices = entry.notices in
-    ap (λ l. flat_map (trace.marked_text time entry.now) notices ++ l)
+    ap (λ l. flat_map (trace.marked_text time) notices ++ l)
     (texts_same (head_at time one number notices) (head_at time other number notices) (length notices)
     (λ i. head_same time one other same (arrow_id number i) (slice_get notices i)))
 
@@ -165,17 +165,17 @@ notices_same time entry one other same =
 pub column_whole : (table : Table) (span : Span) (before : Shown) (entry : Entry) (after : Shown)
     (text one two three four five whole : List ℕ)
     → one ≡ trace.call_text table span entry after
-    → two ≡ one ++ texts_of (trace.core_at table span.end entry.now before after) table.cores
-    → three ≡ two ++ texts_of (trace.process_at table span.end entry.now before after) (length table.processes)
-    → four ≡ three ++ objects_text table span.end entry.now before.counts after.counts
+    → two ≡ one ++ texts_of (trace.core_at table span.end before after) table.cores
+    → three ≡ two ++ texts_of (trace.process_at table span.end before after) (length table.processes)
+    → four ≡ three ++ objects_text table span.end before.counts after.counts
     → five ≡ four ++ trace.notices_text span.end entry after
     → whole ≡ text ++ five
     → whole ≡ text ++ trace.column_text table span before entry after
 column_whole table span before entry after text one two three four five whole u v w x y z =
     let call = trace.call_text table span entry after in
-    let cores = texts_of (trace.core_at table span.end entry.now before after) table.cores in
-    let processes = texts_of (trace.process_at table span.end entry.now before after) (length table.processes) in
-    let objects = objects_text table span.end entry.now before.counts after.counts in
+    let cores = texts_of (trace.core_at table span.end before after) table.cores in
+    let processes = texts_of (trace.process_at table span.end before after) (length table.processes) in
+    let objects = objects_text table span.end before.counts after.counts in
     let notices = trace.notices_text span.end entry after in
     z ∙ ap (λ l. text ++ l) (y ∙ ap (λ l. l ++ notices) (x ∙ ap (λ l. l ++ objects) (w ∙ ap (λ l. l ++ processes)
     (v ∙ ap (λ l. l ++ cores) u) ∙ append_assoc call cores processes)))
@@ -184,20 +184,20 @@ column_whole table span before entry after text one two three four five whole u 
 pub column_same : (table : Table) (span : Span) (before : Shown) (entry : Entry) (after : Shown)
     → trace.column_text table span (bare before) entry (bare after) ≡ trace.column_text table span before entry after
 column_same table span before entry after =
-    let objects = objects_text table span.end entry.now before.counts after.counts in
+    let objects = objects_text table span.end before.counts after.counts in
     let notices = trace.notices_text span.end entry (bare after) in
-    ap (λ l. l ++ trace.changes_text table span.end entry.now (bare before) (bare after) ++ objects ++ notices)
+    ap (λ l. l ++ trace.changes_text table span.end (bare before) (bare after) ++ objects ++ notices)
     (call_same table span entry (bare after) after (slice_same after))
     ∙ ap (λ l. trace.call_text table span entry after ++ l ++ objects ++ notices)
-    (changes_same table span.end entry.now before after)
-    ∙ ap (λ l. trace.call_text table span entry after ++ trace.changes_text table span.end entry.now before after ++ objects ++ l)
+    (changes_same table span.end before after)
+    ∙ ap (λ l. trace.call_text table span entry after ++ trace.changes_text table span.end before after ++ objects ++ l)
     (notices_same span.end entry (bare after) after (slice_same after))
 
 -- what comes after the columns
-pub foot_same : (table : Table) (time now : ℕ) (last : Shown)
-    → trace.foot_text table time now (bare last) ≡ trace.foot_text table time now last
-foot_same table time now last =
-    ap (λ l. l ++ trace.mutexes_text table time now last.counts.owners [] ++ codes "\n]}\n") (changes_same table time now last none_shown)
+pub foot_same : (table : Table) (time : ℕ) (last : Shown)
+    → trace.foot_text table time (bare last) ≡ trace.foot_text table time last
+foot_same table time last =
+    ap (λ l. l ++ trace.mutexes_text table time last.counts.owners [] ++ codes "\n]}\n") (changes_same table time last none_shown)
 
 -- the track of a process that its core runs
 pub track_running : (roster : Roster) (core p : ℕ) (running : Option ℕ) → running ≡ chosen roster core
@@ -226,8 +226,8 @@ same_as_itself (EventFlag e) = eq-eqb e e refl
 same_as_itself (Mutex m) = eq-eqb m m refl
 
 -- nothing is put if the track of a process shows what it showed
-pub process_still : (table : Table) (time now p : ℕ) (before after : Being) (text : List ℕ) → before ≡ after
-    → text ≡ text ++ trace.process_text table (trace.process_spot p time) now before after
-process_still table time now p before after text is =
-    let nothing : trace.process_text table (trace.process_spot p time) now before after ≡ [] = rw (is, same_as_itself after) refl in
+pub process_still : (table : Table) (time p : ℕ) (before after : Being) (text : List ℕ) → before ≡ after
+    → text ≡ text ++ trace.process_text table (trace.process_spot p time) before after
+process_still table time p before after text is =
+    let nothing : trace.process_text table (trace.process_spot p time) before after ≡ [] = rw (is, same_as_itself after) refl in
     sym (append-nil text) ∙ ap (λ (l : List ℕ). text ++ l) (sym nothing)

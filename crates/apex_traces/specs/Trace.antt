@@ -1,7 +1,6 @@
 -- A picture as a trace in the Trace Event Format, which is JSON. The groups of tracks are the cores (1), the
 -- processes (2), the objects (3), of which the mutexes have tracks and the others counters, and the partition
--- (4), with tracks of the init list and of the ticks. The axis has microseconds, and times are nanoseconds; the
--- partition's time is an argument too.
+-- (4), with tracks of the init list and of the ticks. The axis has microseconds, and times are nanoseconds.
 use Rattle.std.specs.Prelude.{ℕ, ◌+◌, Bool, true, false, List, [], ◌∷◌, ◌++◌, Option, None, Some, is_some, codes, decimal, flat_map, length, slice_index_or, if◌then◌else◌, ◌==◌}
 use Rattle.apex_machine.specs.text.Texts.{id_text, mutex_name, process_name}
 use Rattle.apex_calls.specs.Lines.{code_text, deadline_text}
@@ -16,6 +15,7 @@ use Rattle.apex_traces.specs.Times.{time_text}
 use Rattle.apex_moments.specs.Moments.{Shown, no_cell, none_shown}
 use Rattle.apex_traces.specs.Stamps.{begin_back}
 use Rattle.apex_moments.specs.Texts.{texts}
+use Rattle.apex_moments.specs.Words.{profile_number}
 use Rattle.apex_moments.specs.Terms.{Entry, Notice}
 use Rattle.apex_moments.specs.declared.moments.Cell.{Cell}
 use Rattle.apex_traces.specs.Beings.{being_in, being_name, is_begun, same_being}
@@ -48,16 +48,18 @@ mutex_name_text table m = texts (
     ∷ codes "\"}},\n{\"ph\":\"M\",\"pid\":3,\"tid\":" ∷ id_text m
     ∷ codes ",\"name\":\"thread_sort_index\",\"args\":{\"sort_index\":" ∷ id_text m ∷ codes "}}" ∷ [])
 
--- the beginning of the file: the unit of the ruler, the program, the names of the groups, and the tracks of the
--- init list and of the ticks
-unfoldable pub opening_text : List ℕ
-opening_text =
-    codes "{\"displayTimeUnit\":\"ms\",\"otherData\":{\"program\":\"apex\"},\"traceEvents\":[\n{\"ph\":\"M\",\"pid\":1,\"name\":\"process_name\",\"args\":{\"name\":\"cores\"}},\n{\"ph\":\"M\",\"pid\":2,\"name\":\"process_name\",\"args\":{\"name\":\"processes\"}},\n{\"ph\":\"M\",\"pid\":3,\"name\":\"process_name\",\"args\":{\"name\":\"objects\"}},\n{\"ph\":\"M\",\"pid\":4,\"name\":\"process_name\",\"args\":{\"name\":\"partition\"}},\n{\"ph\":\"M\",\"pid\":4,\"tid\":1,\"name\":\"thread_name\",\"args\":{\"name\":\"init\"}},\n{\"ph\":\"M\",\"pid\":4,\"tid\":1,\"name\":\"thread_sort_index\",\"args\":{\"sort_index\":1}},\n{\"ph\":\"M\",\"pid\":4,\"tid\":2,\"name\":\"thread_name\",\"args\":{\"name\":\"ticks\"}},\n{\"ph\":\"M\",\"pid\":4,\"tid\":2,\"name\":\"thread_sort_index\",\"args\":{\"sort_index\":2}}"
+-- the beginning of the file: the unit of the ruler, the program, its version and the table's profile, the names of the
+-- groups, and the tracks of the init list and of the ticks
+unfoldable pub opening_text : Table → List ℕ
+opening_text table = texts (
+    codes "{\"displayTimeUnit\":\"ms\",\"otherData\":{\"program\":\"apex\",\"version\":\"0.6.0\",\"profile\":"
+    ∷ decimal (profile_number table.profile)
+    ∷ codes "},\"traceEvents\":[\n{\"ph\":\"M\",\"pid\":1,\"name\":\"process_name\",\"args\":{\"name\":\"cores\"}},\n{\"ph\":\"M\",\"pid\":2,\"name\":\"process_name\",\"args\":{\"name\":\"processes\"}},\n{\"ph\":\"M\",\"pid\":3,\"name\":\"process_name\",\"args\":{\"name\":\"objects\"}},\n{\"ph\":\"M\",\"pid\":4,\"name\":\"process_name\",\"args\":{\"name\":\"partition\"}},\n{\"ph\":\"M\",\"pid\":4,\"tid\":1,\"name\":\"thread_name\",\"args\":{\"name\":\"init\"}},\n{\"ph\":\"M\",\"pid\":4,\"tid\":1,\"name\":\"thread_sort_index\",\"args\":{\"sort_index\":1}},\n{\"ph\":\"M\",\"pid\":4,\"tid\":2,\"name\":\"thread_name\",\"args\":{\"name\":\"ticks\"}},\n{\"ph\":\"M\",\"pid\":4,\"tid\":2,\"name\":\"thread_sort_index\",\"args\":{\"sort_index\":2}}" ∷ [])
 
 -- what comes before the columns: the names of the tracks, and all counts of the moment before the first entry
 abbrev pub head_text : Table → Shown → List ℕ
 head_text table first =
-    opening_text ++ texts_of core_name_text table.cores
+    opening_text table ++ texts_of core_name_text table.cores
     ++ texts_of (process_name_text table) (length table.processes)
     ++ texts_of (mutex_name_text table) (length table.mutexes)
     ++ counters_text table 0 no_counts first.counts
@@ -69,11 +71,10 @@ end_text spot = texts (
     ∷ codes ",\"ts\":" ∷ time_text spot.time ∷ codes "}" ∷ [])
 
 -- the beginning of a slice, up to its name
-unfoldable pub begin_text : Spot → ℕ → List ℕ
-begin_text spot now = texts (
+unfoldable pub begin_text : Spot → List ℕ
+begin_text spot = texts (
     codes ",\n{\"ph\":\"B\",\"pid\":" ∷ decimal spot.group ∷ codes ",\"tid\":" ∷ decimal spot.track
-    ∷ codes ",\"ts\":" ∷ time_text spot.time ∷ codes ",\"args\":{\"now\":" ∷ decimal now
-    ∷ codes "},\"name\":\"" ∷ [])
+    ∷ codes ",\"ts\":" ∷ time_text spot.time ∷ codes ",\"name\":\"" ∷ [])
 
 -- the name of the slice of a process that a core runs
 unfoldable pub run_name_text : Table → ℕ → List ℕ
@@ -81,27 +82,27 @@ run_name_text table p =
     texts (id_text p ∷ codes " " ∷ json_text (process_name table p) ∷ codes "\"}" ∷ [])
 
 -- the slice of a process that a core begins to run
-abbrev pub run_text : Table → Spot → ℕ → ℕ → List ℕ
-run_text table spot now p = begin_text spot now ++ run_name_text table p
+abbrev pub run_text : Table → Spot → ℕ → List ℕ
+run_text table spot p = begin_text spot ++ run_name_text table p
 
 -- the slice of this name
-abbrev pub slice_text : Spot → ℕ → List ℕ → List ℕ
-slice_text spot now word = begin_text spot now ++ word ++ codes "\"}"
+abbrev pub slice_text : Spot → List ℕ → List ℕ
+slice_text spot word = begin_text spot ++ word ++ codes "\"}"
 
 -- the slice of a process; a dormant one has none
-abbrev pub being_text : Table → Spot → ℕ → Being → List ℕ
-being_text table spot now being =
-    if is_begun being then slice_text spot now (being_name table being) else []
+abbrev pub being_text : Table → Spot → Being → List ℕ
+being_text table spot being =
+    if is_begun being then slice_text spot (being_name table being) else []
 
 -- the slice of the process that a core runs, if it runs one
-abbrev pub run_of : Table → Spot → ℕ → Option ℕ → List ℕ
-run_of table spot now None = []
-run_of table spot now (Some p) = run_text table spot now p
+abbrev pub run_of : Table → Spot → Option ℕ → List ℕ
+run_of table spot None = []
+run_of table spot (Some p) = run_text table spot p
 
 -- the slice of a mutex's owner, if it has one
-abbrev pub owned_text : Table → Spot → ℕ → Option ℕ → List ℕ
-owned_text table spot now None = []
-owned_text table spot now (Some p) = slice_text spot now (json_text (process_name table p))
+abbrev pub owned_text : Table → Spot → Option ℕ → List ℕ
+owned_text table spot None = []
+owned_text table spot (Some p) = slice_text spot (json_text (process_name table p))
 
 -- the end of a slice, if there is one
 abbrev pub ended : Bool → Spot → List ℕ
@@ -115,22 +116,22 @@ same_process (Some p) None = false
 same_process (Some p) (Some q) = p == q
 
 -- the changes on the track of a core
-abbrev pub core_text : Table → Spot → ℕ → Option ℕ → Option ℕ → List ℕ
-core_text table spot now before after =
+abbrev pub core_text : Table → Spot → Option ℕ → Option ℕ → List ℕ
+core_text table spot before after =
     if same_process before after then []
-    else ended (is_some before) spot ++ run_of table spot now after
+    else ended (is_some before) spot ++ run_of table spot after
 
 -- the changes on the track of a mutex, by its owner before and after
-abbrev pub mutex_text : Table → Spot → ℕ → Option ℕ → Option ℕ → List ℕ
-mutex_text table spot now before after =
+abbrev pub mutex_text : Table → Spot → Option ℕ → Option ℕ → List ℕ
+mutex_text table spot before after =
     if same_process before after then []
-    else ended (is_some before) spot ++ owned_text table spot now after
+    else ended (is_some before) spot ++ owned_text table spot after
 
 -- the changes on the track of a process, by what its slice showed and what it shows
-abbrev pub process_text : Table → Spot → ℕ → Being → Being → List ℕ
-process_text table spot now before after =
+abbrev pub process_text : Table → Spot → Being → Being → List ℕ
+process_text table spot before after =
     if same_being before after then []
-    else ended (is_begun before) spot ++ being_text table spot now after
+    else ended (is_begun before) spot ++ being_text table spot after
 
 -- the track of a core
 abbrev pub core_spot : ℕ → ℕ → Spot
@@ -145,9 +146,9 @@ abbrev pub mutex_spot : ℕ → ℕ → Spot
 mutex_spot m time = record { group = 3; track = m + 1; time = time }
 
 -- the changes on the track of this core
-abbrev pub core_at : Table → ℕ → ℕ → Shown → Shown → ℕ → List ℕ
-core_at table time now before after core =
-    core_text table (core_spot core time) now
+abbrev pub core_at : Table → ℕ → Shown → Shown → ℕ → List ℕ
+core_at table time before after core =
+    core_text table (core_spot core time)
     (slice_index_or before.running core None) (slice_index_or after.running core None)
 
 -- the cell of process p of a moment
@@ -155,46 +156,46 @@ abbrev pub cell_at : Shown → ℕ → Cell
 cell_at shown p = slice_index_or shown.cells p no_cell
 
 -- the changes on the track of process p
-abbrev pub process_at : Table → ℕ → ℕ → Shown → Shown → ℕ → List ℕ
-process_at table time now before after p =
-    process_text table (process_spot p time) now
+abbrev pub process_at : Table → ℕ → Shown → Shown → ℕ → List ℕ
+process_at table time before after p =
+    process_text table (process_spot p time)
     (being_in (cell_at before p)) (being_in (cell_at after p))
 
 -- the changes on the track of mutex m, by the owners of all mutexes
-abbrev pub mutex_at : Table → ℕ → ℕ → List (Option ℕ) → List (Option ℕ) → ℕ → List ℕ
-mutex_at table time now before after m =
-    mutex_text table (mutex_spot m time) now
+abbrev pub mutex_at : Table → ℕ → List (Option ℕ) → List (Option ℕ) → ℕ → List ℕ
+mutex_at table time before after m =
+    mutex_text table (mutex_spot m time)
     (slice_index_or before m None) (slice_index_or after m None)
 
 -- the changes on the tracks of all mutexes
-abbrev pub mutexes_text : Table → ℕ → ℕ → List (Option ℕ) → List (Option ℕ) → List ℕ
-mutexes_text table time now before after =
-    texts_of (mutex_at table time now before after) (length table.mutexes)
+abbrev pub mutexes_text : Table → ℕ → List (Option ℕ) → List (Option ℕ) → List ℕ
+mutexes_text table time before after =
+    texts_of (mutex_at table time before after) (length table.mutexes)
 
 -- the changes of what the objects hold: of the counters, and on the tracks of the mutexes
-abbrev pub objects_text : Table → ℕ → ℕ → Counts → Counts → List ℕ
-objects_text table time now before after =
+abbrev pub objects_text : Table → ℕ → Counts → Counts → List ℕ
+objects_text table time before after =
     counters_text table time before after
-    ++ mutexes_text table time now before.owners after.owners
+    ++ mutexes_text table time before.owners after.owners
 
 -- the mark of a notice on the track of process p, by the two words of its name
-abbrev pub mark_text : ℕ → ℕ → ℕ → List ℕ → List ℕ → List ℕ
-mark_text time now p word detail =
-    codes ",\n{\"ph\":\"i\",\"s\":\"t\",\"pid\":2,\"tid\":" ++ id_text p ++ begin_back time now ++ word
-    ++ detail ++ codes "\"}"
+abbrev pub mark_text : ℕ → ℕ → List ℕ → List ℕ → List ℕ
+mark_text time p word detail =
+    codes ",\n{\"ph\":\"i\",\"pid\":2,\"tid\":" ++ id_text p ++ begin_back time ++ word ++ detail
+    ++ codes "\"}"
 
 -- the mark of a notice: its word, and the code or the type of the deadline
-abbrev pub marked_text : ℕ → ℕ → Notice → List ℕ
-marked_text time now (Woken p code) = mark_text time now p (codes "woken ") (code_text code)
-marked_text time now (Released p) = mark_text time now p (codes "released") []
-marked_text time now (Missed p kind) =
-    mark_text time now p (codes "missed ") (deadline_text kind)
+abbrev pub marked_text : ℕ → Notice → List ℕ
+marked_text time (Woken p code) = mark_text time p (codes "woken ") (code_text code)
+marked_text time (Released p) = mark_text time p (codes "released") []
+marked_text time (Missed p kind) =
+    mark_text time p (codes "missed ") (deadline_text kind)
 
 -- the changes on all tracks
-abbrev pub changes_text : Table → ℕ → ℕ → Shown → Shown → List ℕ
-changes_text table time now before after =
-    texts_of (core_at table time now before after) table.cores
-    ++ texts_of (process_at table time now before after) (length table.processes)
+abbrev pub changes_text : Table → ℕ → Shown → Shown → List ℕ
+changes_text table time before after =
+    texts_of (core_at table time before after) table.cores
+    ++ texts_of (process_at table time before after) (length table.processes)
 
 -- the slice of an entry, and the beginnings of its arrows
 abbrev pub call_text : Table → Span → Entry → Shown → List ℕ
@@ -205,19 +206,19 @@ call_text table span entry after =
 -- the marks of an entry's notices, and the ends of its arrows
 abbrev pub notices_text : ℕ → Entry → Shown → List ℕ
 notices_text time entry after =
-    flat_map (marked_text time entry.now) entry.notices
+    flat_map (marked_text time) entry.notices
     ++ heads_of time after entry.number entry.notices
 
 -- the call of an entry, the changes by it, and its notices
 abbrev pub column_text : Table → Span → Shown → Entry → Shown → List ℕ
 column_text table span before entry after =
     call_text table span entry after
-    ++ changes_text table span.end entry.now before after
-    ++ objects_text table span.end entry.now before.counts after.counts
+    ++ changes_text table span.end before after
+    ++ objects_text table span.end before.counts after.counts
     ++ notices_text span.end entry after
 
 -- what comes after the columns: the ends of all slices
-abbrev pub foot_text : Table → ℕ → ℕ → Shown → List ℕ
-foot_text table time now last =
-    changes_text table time now last none_shown
-    ++ mutexes_text table time now last.counts.owners [] ++ codes "\n]}\n"
+abbrev pub foot_text : Table → ℕ → Shown → List ℕ
+foot_text table time last =
+    changes_text table time last none_shown
+    ++ mutexes_text table time last.counts.owners [] ++ codes "\n]}\n"

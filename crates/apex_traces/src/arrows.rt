@@ -3,7 +3,6 @@ ghost use Rattle.std.specs.Prelude.{◌≡◌, ◌+◌, ◌*◌, ◌<◌, ◌≤
 ghost use Rattle.arrayvec.specs.ArrayVec.{array_vec_len};
 ghost use Rattle.apex_traces.specs.Arrows.{arrow_back, arrow_id, goal_of, has_slice, head_of, head_text, head_to, heads_of, roused, tail_of, tail_text, tail_to, tails_of};
 ghost use Rattle.apex_moments.specs.Moments.{with_cells};
-ghost use Rattle.apex_traces.specs.Stamps.{IsStamp};
 ghost use Rattle.apex_traces.specs.Tracks.{bare_cells};
 ghost use Rattle.apex_traces.specs.declared.arrows.TheConstants.{BACK};
 ghost use Rattle.apex_traces.specs.declared.pieces.TheConstants.{ARROW, PIECE_ROOM};
@@ -11,7 +10,7 @@ ghost use Rattle.apex_types.specs.declared.limits.TheConstants.{MOST_NOTICES};
 
 use crate::calls::add_caller;
 use crate::pieces::{ARROW, DIGITS, Piece, add, add_bytes, add_number, add_text};
-use crate::stamps::{Stamp, Timed};
+use crate::stamps::Timed;
 use apex_moments::notice_word;
 use apex_store::Store;
 use apex_types::{Caller, MOST_NOTICES, Notice, ProcessId};
@@ -53,8 +52,8 @@ fn add_tail(piece: &mut Piece, caller: &Caller, begun: &Timed, id: u64, word: &s
 /// Adds the end of an arrow on the track of a process.
 #[inline(always)]
 #[tactic(auto, using(std::proofs::Common::append_assoc), unfolding(crate::specs::Arrows::head_text))]
-fn add_head(piece: &mut Piece, time: u64, stamp: &Stamp, process: ProcessId, id: u64, word: &str)
-    requires stamp { IsStamp stamp.now time }
+fn add_head(piece: &mut Piece, time: u64, stamp: &Timed, process: ProcessId, id: u64, word: &str)
+    requires stamp { stamp.now ≡ time }
     requires word { length word.now ≤ 8 }
     requires room { array_vec_len piece.old + ARROW ≤ PIECE_ROOM }
     ensures text { piece.new.items ≡ piece.old.items ++ head_text time process id word.now }
@@ -62,7 +61,7 @@ fn add_head(piece: &mut Piece, time: u64, stamp: &Stamp, process: ProcessId, id:
 {
     add_text(piece, *b",\n{\"ph\":\"f\",\"bp\":\"e\",\"pid\":2,\"tid\":");
     add_number(piece, u64::from(process.number()));
-    add_bytes(piece, stamp.time());
+    add_bytes(piece, stamp.text());
     add_back(piece, id, word);
 }
 
@@ -139,11 +138,11 @@ fn add_head_of<S: Store>(
     piece: &mut Piece,
     store: &S,
     time: u64,
-    stamp: &Stamp,
+    stamp: &Timed,
     id: u64,
     notice: &Notice,
 )
-    requires stamp { IsStamp stamp.now time }
+    requires stamp { stamp.now ≡ time }
     requires room { array_vec_len piece.old + ARROW ≤ PIECE_ROOM }
     ensures text { piece.new.items ≡ piece.old.items ++ head_of time
         (with_cells (bare_cells (S.roster store.now))) id (Some notice.now) }
@@ -182,11 +181,11 @@ pub(crate) fn add_heads<S: Store>(
     piece: &mut Piece,
     store: &S,
     time: u64,
-    stamp: &Stamp,
+    stamp: &Timed,
     number: u32,
     notices: &[Notice],
 )
-    requires stamp { IsStamp stamp.now time }
+    requires stamp { stamp.now ≡ time }
     requires few { length notices.now ≤ MOST_NOTICES }
     requires room { array_vec_len piece.old + ARROW * MOST_NOTICES ≤ PIECE_ROOM }
     ensures text { piece.new.items ≡ piece.old.items ++ heads_of time

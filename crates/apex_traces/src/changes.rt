@@ -3,14 +3,13 @@ ghost use Rattle.std.specs.Prelude.{◌≡◌, ◌+◌, ◌*◌, ◌≤◌, ◌+
 ghost use Rattle.arrayvec.specs.ArrayVec.{array_vec_len};
 ghost use Rattle.apex_types.specs.declared.limits.TheConstants.{MOST_OBJECTS};
 ghost use Rattle.apex_moments.specs.Counts.{HasCounts, counts_of};
-ghost use Rattle.apex_traces.specs.Stamps.{IsStamp};
 ghost use Rattle.apex_traces.specs.Trace.{objects_text};
 ghost use Rattle.apex_traces.specs.declared.pieces.TheConstants.{COUNTER, PIECE_ROOM, TRACK};
 
 use crate::counters::add_kind;
 use crate::mutexes::add_mutexes;
 use crate::pieces::{COUNTER, Piece, TRACK};
-use crate::stamps::Stamp;
+use crate::stamps::Timed;
 use apex_configs::Table;
 use apex_dispatch::Objects;
 use apex_moments::{Counts, Kind};
@@ -35,14 +34,14 @@ pub(crate) fn add_changes<S: Store>(
     objects: &Objects,
     store: &S,
     time: u64,
-    stamp: &Stamp,
+    stamp: &Timed,
 )
-    requires stamp { IsStamp stamp.now time }
+    requires stamp { stamp.now ≡ time }
     requires counts { HasCounts counts.old table.now }
     requires room { array_vec_len piece.old + COUNTER * 4 * MOST_OBJECTS + TRACK * MOST_OBJECTS
         ≤ PIECE_ROOM }
     ensures text { piece.new.items ≡ piece.old.items
-        ++ objects_text table.now time stamp.now.ticks counts.old
+        ++ objects_text table.now time counts.old
         (counts_of table.now (S.roster store.now) objects.now) }
     ensures counts { counts.new ≡ counts_of table.now (S.roster store.now) objects.now }
     ensures short { array_vec_len piece.new

@@ -4,13 +4,12 @@ ghost use Rattle.arrayvec.specs.ArrayVec.{array_vec_len};
 ghost use Rattle.apex_types.specs.declared.limits.TheConstants.{MOST_NAME, MOST_OBJECTS};
 ghost use Rattle.apex_traces.specs.Counters.{change_text, count_at, counter_text, counters_text, kind_text, object_name, same_count};
 ghost use Rattle.apex_moments.specs.Counts.{counts_in, no_counts, object_count};
-ghost use Rattle.apex_traces.specs.Stamps.{IsStamp};
 ghost use Rattle.apex_traces.specs.declared.pieces.TheConstants.{COUNTER, PIECE_ROOM};
 
 use crate::changes::count_at;
 use crate::names::{back, front, object_name};
 use crate::pieces::{COUNTER, Piece, add, add_bytes, add_escaped, add_number, add_text};
-use crate::stamps::Stamp;
+use crate::stamps::Timed;
 use apex_configs::Table;
 use apex_dispatch::Objects;
 use apex_moments::{Counts, Kind};
@@ -20,15 +19,15 @@ use std::alloc::AllocError;
 /// Adds the count of an object of this kind and name.
 #[inline(always)]
 #[tactic(auto, using(std::proofs::Common::append_assoc))]
-fn add_count(piece: &mut Piece, time: u64, stamp: &Stamp, kind: Kind, name: &[u8], count: u64)
-    requires stamp { IsStamp stamp.now time }
+fn add_count(piece: &mut Piece, time: u64, stamp: &Timed, kind: Kind, name: &[u8], count: u64)
+    requires stamp { stamp.now ≡ time }
     requires name { length name.now ≤ MOST_NAME }
     requires room { array_vec_len piece.old + COUNTER ≤ PIECE_ROOM }
     ensures text { piece.new.items ≡ piece.old.items ++ counter_text kind name.now time count }
     ensures short { array_vec_len piece.new ≤ array_vec_len piece.old + COUNTER }
 {
     add_text(piece, *b",\n{\"ph\":\"C\",\"pid\":3");
-    add_bytes(piece, stamp.time());
+    add_bytes(piece, stamp.text());
     add(piece, front(kind));
     add_escaped(piece, name);
     add(piece, back(kind));
@@ -43,12 +42,12 @@ fn add_changed(
     piece: &mut Piece,
     table: &Table,
     time: u64,
-    stamp: &Stamp,
+    stamp: &Timed,
     kind: Kind,
     place: u8,
     count: u64,
 )
-    requires stamp { IsStamp stamp.now time }
+    requires stamp { stamp.now ≡ time }
     requires room { array_vec_len piece.old + COUNTER ≤ PIECE_ROOM }
     ensures text { piece.new.items ≡ piece.old.items
         ++ counter_text kind (object_name table.now kind place) time count }
@@ -80,13 +79,13 @@ fn add_change(
     piece: &mut Piece,
     table: &Table,
     time: u64,
-    stamp: &Stamp,
+    stamp: &Timed,
     kind: Kind,
     place: u8,
     before: &Option<u64>,
     count: u64,
 )
-    requires stamp { IsStamp stamp.now time }
+    requires stamp { stamp.now ≡ time }
     requires room { array_vec_len piece.old + COUNTER ≤ PIECE_ROOM }
     ensures text { piece.new.items ≡ piece.old.items
         ++ change_text table.now time kind place before.now count }
@@ -99,8 +98,8 @@ fn add_change(
 }
 
 /// Adds the first count of the object of a kind at a place, if it has one.
-fn add_first(piece: &mut Piece, table: &Table, stamp: &Stamp, kind: Kind, first: &[u64], place: u8)
-    requires stamp { IsStamp stamp.now 0 }
+fn add_first(piece: &mut Piece, table: &Table, stamp: &Timed, kind: Kind, first: &[u64], place: u8)
+    requires stamp { stamp.now ≡ 0 }
     requires room { array_vec_len piece.old + COUNTER ≤ PIECE_ROOM }
     ensures text { piece.new.items ≡ piece.old.items
         ++ count_at table.now 0 kind [] first.now place }
@@ -112,8 +111,8 @@ fn add_first(piece: &mut Piece, table: &Table, stamp: &Stamp, kind: Kind, first:
 }
 
 /// Adds the first counts of all objects of a kind.
-fn add_firsts(piece: &mut Piece, table: &Table, stamp: &Stamp, kind: Kind, first: &[u64])
-    requires stamp { IsStamp stamp.now 0 }
+fn add_firsts(piece: &mut Piece, table: &Table, stamp: &Timed, kind: Kind, first: &[u64])
+    requires stamp { stamp.now ≡ 0 }
     requires room { array_vec_len piece.old + COUNTER * MOST_OBJECTS ≤ PIECE_ROOM }
     ensures text { piece.new.items ≡ piece.old.items
         ++ kind_text table.now 0 kind [] first.now }
@@ -130,7 +129,7 @@ fn add_first_counts(piece: &mut Piece, table: &Table, first: &Counts)
     requires { array_vec_len piece.old + COUNTER * 4 * MOST_OBJECTS ≤ PIECE_ROOM }
     ensures { piece.new.items ≡ piece.old.items ++ counters_text table.now 0 no_counts first.now }
 {
-    let stamp = Stamp::new(0, 0);
+    let stamp = Timed::new(0);
     add_firsts(piece, table, &stamp, Kind::Semaphore, first.values());
     add_firsts(piece, table, &stamp, Kind::Buffer, first.contents());
     add_firsts(piece, table, &stamp, Kind::Blackboard, first.displays());
@@ -159,11 +158,11 @@ pub(crate) fn add_kind(
     table: &Table,
     objects: &Objects,
     time: u64,
-    stamp: &Stamp,
+    stamp: &Timed,
     kind: Kind,
     counts: &mut [u64],
 )
-    requires stamp { IsStamp stamp.now time }
+    requires stamp { stamp.now ≡ time }
     requires many { length counts.old ≡ object_count table.now kind }
     requires room { array_vec_len piece.old + COUNTER * MOST_OBJECTS ≤ PIECE_ROOM }
     ensures text { piece.new.items ≡ piece.old.items

@@ -4,13 +4,13 @@ ghost use Rattle.arrayvec.specs.ArrayVec.{array_vec_len};
 ghost use Rattle.apex_machine.specs.text.Listing.{texts_of};
 ghost use Rattle.apex_types.specs.declared.limits.TheConstants.{MOST_OBJECTS};
 ghost use Rattle.apex_moments.specs.Counts.{owners_in};
-ghost use Rattle.apex_traces.specs.Stamps.{IsStamp, Stamps};
+ghost use Rattle.apex_traces.specs.Stamps.{Stamps};
 ghost use Rattle.apex_traces.specs.Trace as trace;
 ghost use Rattle.apex_traces.specs.declared.pieces.TheConstants.{PIECE_ROOM, TRACK};
 ghost use Rattle.apex_traces.specs.declared.trace.TheConstants.{BEGIN, NAME};
 
 use crate::pieces::{Piece, TRACK, add_escaped, add_text};
-use crate::stamps::Stamp;
+use crate::stamps::Timed;
 use crate::trace::{BEGIN, NAME, Spot, add_begin, add_ended, is_same_process, mutex_spot};
 use apex_configs::Table;
 use apex_moments::{Part, id_part, mutex_name, name_of, put_all};
@@ -53,11 +53,11 @@ pub(crate) fn put_mutex_names(text: &mut Vec<u8>, table: &Table) -> Result<(), A
 /// Adds the slice of a mutex's owner, if it has one.
 #[inline(always)]
 #[tactic(auto, using(std::proofs::Common::append_assoc))]
-fn add_owner(piece: &mut Piece, table: &Table, spot: Spot, stamp: &Stamp, owner: &Option<ProcessId>)
+fn add_owner(piece: &mut Piece, table: &Table, spot: Spot, stamp: &Timed, owner: &Option<ProcessId>)
     requires stamps { Stamps stamp.now spot }
     requires room { array_vec_len piece.old + BEGIN + NAME ≤ PIECE_ROOM }
     ensures text { piece.new.items ≡ piece.old.items
-        ++ trace.owned_text table.now spot stamp.now.ticks owner.now }
+        ++ trace.owned_text table.now spot owner.now }
     ensures short { array_vec_len piece.new ≤ array_vec_len piece.old + BEGIN + NAME }
 {
     if let Some(process) = owner {
@@ -76,15 +76,15 @@ fn add_handover(
     table: &Table,
     mutex: MutexId,
     time: u64,
-    stamp: &Stamp,
+    stamp: &Timed,
     before: &Option<ProcessId>,
     after: &Option<ProcessId>,
 )
-    requires stamp { IsStamp stamp.now time }
+    requires stamp { stamp.now ≡ time }
     requires room { array_vec_len piece.old + TRACK ≤ PIECE_ROOM }
     ensures text { piece.new.items ≡ piece.old.items
         ++ (trace.ended (is_some before.now) (trace.mutex_spot mutex time)
-        ++ trace.owned_text table.now (trace.mutex_spot mutex time) stamp.now.ticks after.now) }
+        ++ trace.owned_text table.now (trace.mutex_spot mutex time) after.now) }
     ensures short { array_vec_len piece.new ≤ array_vec_len piece.old + TRACK }
 {
     let spot = mutex_spot(mutex, time);
@@ -99,14 +99,14 @@ fn add_mutex(
     table: &Table,
     mutex: MutexId,
     time: u64,
-    stamp: &Stamp,
+    stamp: &Timed,
     before: &Option<ProcessId>,
     after: &Option<ProcessId>,
 )
-    requires stamp { IsStamp stamp.now time }
+    requires stamp { stamp.now ≡ time }
     requires room { array_vec_len piece.old + TRACK ≤ PIECE_ROOM }
     ensures text { piece.new.items ≡ piece.old.items ++ trace.mutex_text table.now
-        (trace.mutex_spot mutex time) stamp.now.ticks before.now after.now }
+        (trace.mutex_spot mutex time) before.now after.now }
     ensures short { array_vec_len piece.new ≤ array_vec_len piece.old + TRACK }
 {
     if is_same_process(before, after) {
@@ -134,14 +134,14 @@ pub(crate) fn add_mutexes<S: Store>(
     table: &Table,
     store: &S,
     time: u64,
-    stamp: &Stamp,
+    stamp: &Timed,
     owners: &mut [Option<ProcessId>],
 )
-    requires stamp { IsStamp stamp.now time }
+    requires stamp { stamp.now ≡ time }
     requires many { length owners.old ≡ length table.now.mutexes }
     requires room { array_vec_len piece.old + TRACK * MOST_OBJECTS ≤ PIECE_ROOM }
     ensures text { piece.new.items ≡ piece.old.items
-        ++ trace.mutexes_text table.now time stamp.now.ticks owners.old
+        ++ trace.mutexes_text table.now time owners.old
         (owners_in table.now (S.roster store.now)) }
     ensures owners { owners.new ≡ owners_in table.now (S.roster store.now) }
     ensures short { array_vec_len piece.new ≤ array_vec_len piece.old + TRACK * MOST_OBJECTS }
@@ -159,13 +159,13 @@ pub(crate) fn add_mutex_ends(
     piece: &mut Piece,
     table: &Table,
     time: u64,
-    stamp: &Stamp,
+    stamp: &Timed,
     last: &[Option<ProcessId>],
 )
-    requires stamp { IsStamp stamp.now time }
+    requires stamp { stamp.now ≡ time }
     requires room { array_vec_len piece.old + TRACK * MOST_OBJECTS ≤ PIECE_ROOM }
     ensures text { piece.new.items ≡ piece.old.items
-        ++ trace.mutexes_text table.now time stamp.now.ticks last.now [] }
+        ++ trace.mutexes_text table.now time last.now [] }
     ensures short { array_vec_len piece.new ≤ array_vec_len piece.old + TRACK * MOST_OBJECTS }
 {
     for place in 0..table.mutex_count() {

@@ -1,12 +1,12 @@
 //! The texts of a slice's end and of its beginning, before the number of its track and behind it.
 ghost use Rattle.std.specs.Prelude.{◌≡◌, ◌+◌, ◌≤◌, ◌++◌, length};
 ghost use Rattle.arrayvec.specs.ArrayVec.{array_vec_len};
-ghost use Rattle.apex_traces.specs.Stamps.{IsGroup, IsStamp, begin_front, end_front};
+ghost use Rattle.apex_traces.specs.Stamps.{IsGroup, begin_front, end_front};
 ghost use Rattle.apex_traces.specs.Times.{time_back};
 ghost use Rattle.apex_traces.specs.declared.pieces.TheConstants.{PIECE_ROOM};
-ghost use Rattle.apex_traces.specs.declared.stamps.TheConstants.{BEGIN_ROOM, FRONT, TIMED};
+ghost use Rattle.apex_traces.specs.declared.stamps.TheConstants.{FRONT, TIMED};
 
-use crate::pieces::{DIGITS, Piece, add_bytes, add_number, add_text};
+use crate::pieces::{Piece, add_text};
 use crate::times::{TIME_ROOM, add_time};
 use arrayvec::ArrayVec;
 use std::marker::Model;
@@ -16,9 +16,6 @@ pub(crate) const FRONT: usize = 26;
 
 /// The most bytes of the time behind the number of a track.
 pub(crate) const TIMED: usize = TIME_ROOM + 6;
-
-/// The most bytes behind the number of a track at the beginning of a slice.
-pub(crate) const BEGIN_ROOM: usize = TIMED + DIGITS + 25;
 
 /// A time on the trace's axis, with its text as it is behind the number of a track.
 #[derive(Drop)]
@@ -67,64 +64,6 @@ impl Timed {
         ensures short { length result.now ≤ TIMED }
     {
         self.text.as_slice()
-    }
-}
-
-/// The time of an entry, and its texts, which are the same in all slices.
-#[derive(Drop)]
-pub(crate) struct Stamp {
-    /// The partition's time in ticks.
-    ticks: u64,
-    /// The time on the trace's axis.
-    time: Timed,
-    /// What is behind the number of a track at the beginning of a slice, up to its name.
-    begin: ArrayVec<u8, BEGIN_ROOM>,
-}
-
-impl Stamp {
-    /// The stamp of this time on the trace's axis, and of this time in ticks.
-    #[tactic(auto, using(std::proofs::Common::append_assoc))]
-    pub(crate) fn new(time: u64, ticks: u64) -> Stamp
-        ensures stamp { IsStamp result time }
-        ensures ticks { result.ticks ≡ ticks }
-    {
-        let timed = Timed::new(time);
-        let mut begin = ArrayVec::new();
-        add_bytes(&mut begin, timed.text());
-        add_text(&mut begin, *b",\"args\":{\"now\":");
-        add_number(&mut begin, ticks);
-        add_text(&mut begin, *b"},\"name\":\"");
-        Stamp {
-            ticks,
-            time: timed,
-            begin,
-        }
-    }
-
-    /// The time, as it is behind the number of a track.
-    #[inline(always)]
-    pub(crate) fn time(&self) -> &[u8]
-        ensures value { result.now ≡ time_back self.now.time }
-        ensures short { length result.now ≤ TIMED }
-    {
-        self.time.text()
-    }
-
-    /// The time alone, as the entry after this one takes it.
-    #[inline(always)]
-    pub(crate) fn into_time(self) -> Timed
-        ensures { result ≡ self.time }
-    {
-        self.time
-    }
-
-    /// What is behind the number of a track at the beginning of a slice, up to its name.
-    #[inline(always)]
-    pub(crate) fn begin(&self) -> &[u8]
-        ensures value { result.now ≡ self.now.begin.items }
-        ensures short { length result.now ≤ BEGIN_ROOM }
-    {
-        self.begin.as_slice()
     }
 }
 

@@ -1,7 +1,6 @@
 //! A picture as a trace in the Trace Event Format, which is JSON: tracks of the cores, of the
 //! processes and of the mutexes, and counters of the other objects. The calls and the arrows are in
-//! modules of their own. The axis has microseconds, and times are nanoseconds; the partition's time is
-//! an argument too.
+//! modules of their own. The axis has microseconds, and times are nanoseconds.
 ghost use Rattle.std.specs.Prelude.{◌≡◌, ◌+◌, ◌*◌, ◌≤◌, ◌++◌, [], flat_map, is_some, length, map, OnOk};
 ghost use Rattle.arrayvec.specs.ArrayVec.{array_vec_len};
 ghost use Rattle.apex_machine.specs.text.Listing.{texts_of};
@@ -10,7 +9,7 @@ ghost use Rattle.apex_calls.specs.Lines.{IsPrintable};
 ghost use Rattle.apex_moments.specs.Counts.{HasCounts};
 ghost use Rattle.apex_moments.specs.Moments.{moment_in, none_shown, running_in, with_cells, with_running};
 ghost use Rattle.apex_moments.specs.Places.{of_places};
-ghost use Rattle.apex_traces.specs.Stamps.{IsStamp, Stamps};
+ghost use Rattle.apex_traces.specs.Stamps.{Stamps};
 ghost use Rattle.apex_traces.specs.Trace as trace;
 ghost use Rattle.apex_traces.specs.declared.pieces.TheConstants.{ARROW, CALL, MARK, PIECE_ROOM, TRACK};
 ghost use Rattle.apex_traces.specs.declared.trace.TheConstants.{BEGIN, END, MARK_DETAIL, MARK_WORD, NAME};
@@ -26,13 +25,14 @@ use crate::mutexes::{add_mutex_ends, put_mutex_names};
 use crate::pieces::{
     ARROW, CALL, DIGITS, MARK, Piece, TRACK, add, add_bytes, add_escaped, add_number, add_text,
 };
-use crate::stamps::{BEGIN_ROOM, FRONT, Stamp, TIMED, Timed, add_begin_front, add_end_front};
+use crate::stamps::{FRONT, TIMED, Timed, add_begin_front, add_end_front};
 use crate::tracks::{Tracks, is_still, track_at, track_by};
 use apex_configs::Table;
 use apex_dispatch::Kernel;
 use apex_json::MOST_ESCAPE;
 use apex_moments::{
-    CORES, Part, code_word, deadline_word, id_part, name_of, put, put_all, running_at,
+    CORES, Part, code_word, deadline_word, id_part, name_of, profile_number, put, put_all,
+    running_at,
 };
 use apex_store::Store;
 use apex_types::{CoreId, LentEntry, MOST_NAME, MOST_NOTICES, MutexId, Notice, ProcessId};
@@ -110,13 +110,20 @@ fn put_process_names(text: &mut Vec<u8>, table: &Table) -> Result<(), AllocError
 }
 
 /// Puts the head of the file.
-#[tactic(auto, unfolding(crate::specs::Trace::opening_text))]
-fn put_opening(text: &mut Vec<u8>) -> Result<(), AllocError>
-    ensures { OnOk result (text.new.items ≡ text.old.items ++ trace.opening_text) }
+fn put_opening(text: &mut Vec<u8>, table: &Table) -> Result<(), AllocError>
+    ensures { OnOk result (text.new.items ≡ text.old.items ++ trace.opening_text table.now) }
 {
-    put(
+    put_all(
         text,
-        "{\"displayTimeUnit\":\"ms\",\"otherData\":{\"program\":\"apex\"},\"traceEvents\":[\n{\"ph\":\"M\",\"pid\":1,\"name\":\"process_name\",\"args\":{\"name\":\"cores\"}},\n{\"ph\":\"M\",\"pid\":2,\"name\":\"process_name\",\"args\":{\"name\":\"processes\"}},\n{\"ph\":\"M\",\"pid\":3,\"name\":\"process_name\",\"args\":{\"name\":\"objects\"}},\n{\"ph\":\"M\",\"pid\":4,\"name\":\"process_name\",\"args\":{\"name\":\"partition\"}},\n{\"ph\":\"M\",\"pid\":4,\"tid\":1,\"name\":\"thread_name\",\"args\":{\"name\":\"init\"}},\n{\"ph\":\"M\",\"pid\":4,\"tid\":1,\"name\":\"thread_sort_index\",\"args\":{\"sort_index\":1}},\n{\"ph\":\"M\",\"pid\":4,\"tid\":2,\"name\":\"thread_name\",\"args\":{\"name\":\"ticks\"}},\n{\"ph\":\"M\",\"pid\":4,\"tid\":2,\"name\":\"thread_sort_index\",\"args\":{\"sort_index\":2}}",
+        &[
+            Part::Plain(
+                "{\"displayTimeUnit\":\"ms\",\"otherData\":{\"program\":\"apex\",\"version\":\"0.6.0\",\"profile\":",
+            ),
+            Part::Number(profile_number(table.profile())),
+            Part::Plain(
+                "},\"traceEvents\":[\n{\"ph\":\"M\",\"pid\":1,\"name\":\"process_name\",\"args\":{\"name\":\"cores\"}},\n{\"ph\":\"M\",\"pid\":2,\"name\":\"process_name\",\"args\":{\"name\":\"processes\"}},\n{\"ph\":\"M\",\"pid\":3,\"name\":\"process_name\",\"args\":{\"name\":\"objects\"}},\n{\"ph\":\"M\",\"pid\":4,\"name\":\"process_name\",\"args\":{\"name\":\"partition\"}},\n{\"ph\":\"M\",\"pid\":4,\"tid\":1,\"name\":\"thread_name\",\"args\":{\"name\":\"init\"}},\n{\"ph\":\"M\",\"pid\":4,\"tid\":1,\"name\":\"thread_sort_index\",\"args\":{\"sort_index\":1}},\n{\"ph\":\"M\",\"pid\":4,\"tid\":2,\"name\":\"thread_name\",\"args\":{\"name\":\"ticks\"}},\n{\"ph\":\"M\",\"pid\":4,\"tid\":2,\"name\":\"thread_sort_index\",\"args\":{\"sort_index\":2}}",
+            ),
+        ],
     )
 }
 
@@ -126,7 +133,7 @@ fn put_opening(text: &mut Vec<u8>) -> Result<(), AllocError>
 pub fn put_head(text: &mut Vec<u8>, table: &Table, first: &Tracks) -> Result<(), AllocError>
     ensures { OnOk result (text.new.items ≡ text.old.items ++ trace.head_text table.now first.now) }
 {
-    put_opening(text)?;
+    put_opening(text, table)?;
     put_core_names(text, table)?;
     put_process_names(text, table)?;
     put_mutex_names(text, table)?;
@@ -137,7 +144,7 @@ pub fn put_head(text: &mut Vec<u8>, table: &Table, first: &Tracks) -> Result<(),
 const END: usize = FRONT + DIGITS + TIMED + 1;
 
 /// The most bytes of the beginning of a slice, up to its name.
-pub(crate) const BEGIN: usize = FRONT + DIGITS + BEGIN_ROOM;
+pub(crate) const BEGIN: usize = FRONT + DIGITS + TIMED + 9;
 
 /// The most bytes of the name of a slice and of what is behind it: the number of a process, and its
 /// name, of which JSON escapes each byte at the most.
@@ -151,7 +158,7 @@ const MARK_DETAIL: usize = 14;
 
 /// Adds the end of a slice.
 #[inline(always)]
-fn add_end(piece: &mut Piece, spot: Spot, stamp: &Stamp)
+fn add_end(piece: &mut Piece, spot: Spot, stamp: &Timed)
     requires stamps { Stamps stamp.now spot }
     requires room { array_vec_len piece.old + END ≤ PIECE_ROOM }
     ensures text { piece.new.items ≡ piece.old.items ++ trace.end_text spot }
@@ -159,21 +166,22 @@ fn add_end(piece: &mut Piece, spot: Spot, stamp: &Stamp)
 {
     add_end_front(piece, spot.group);
     add_number(piece, u64::from(spot.track));
-    add_bytes(piece, stamp.time());
+    add_bytes(piece, stamp.text());
     add_text(piece, *b"}");
 }
 
 /// Adds the beginning of a slice, up to its name.
 #[inline(always)]
-pub(crate) fn add_begin(piece: &mut Piece, spot: Spot, stamp: &Stamp)
+pub(crate) fn add_begin(piece: &mut Piece, spot: Spot, stamp: &Timed)
     requires stamps { Stamps stamp.now spot }
     requires room { array_vec_len piece.old + BEGIN ≤ PIECE_ROOM }
-    ensures text { piece.new.items ≡ piece.old.items ++ trace.begin_text spot stamp.now.ticks }
+    ensures text { piece.new.items ≡ piece.old.items ++ trace.begin_text spot }
     ensures short { array_vec_len piece.new ≤ array_vec_len piece.old + BEGIN }
 {
     add_begin_front(piece, spot.group);
     add_number(piece, u64::from(spot.track));
-    add_bytes(piece, stamp.begin());
+    add_bytes(piece, stamp.text());
+    add_text(piece, *b",\"name\":\"");
 }
 
 /// Adds the name of the slice of a process that a core runs.
@@ -197,13 +205,13 @@ fn add_running(
     piece: &mut Piece,
     table: &Table,
     spot: Spot,
-    stamp: &Stamp,
+    stamp: &Timed,
     running: &Option<ProcessId>,
 )
     requires stamps { Stamps stamp.now spot }
     requires room { array_vec_len piece.old + BEGIN + NAME ≤ PIECE_ROOM }
     ensures text { piece.new.items ≡ piece.old.items
-        ++ trace.run_of table.now spot stamp.now.ticks running.now }
+        ++ trace.run_of table.now spot running.now }
     ensures short { array_vec_len piece.new ≤ array_vec_len piece.old + BEGIN + NAME }
 {
     if let Some(process) = running {
@@ -215,11 +223,11 @@ fn add_running(
 /// Adds the slice of a process; a dormant one has none.
 #[inline(always)]
 #[tactic(auto, using(std::proofs::Common::append_assoc))]
-fn add_being(piece: &mut Piece, table: &Table, spot: Spot, stamp: &Stamp, being: &Being)
+fn add_being(piece: &mut Piece, table: &Table, spot: Spot, stamp: &Timed, being: &Being)
     requires stamps { Stamps stamp.now spot }
     requires room { array_vec_len piece.old + BEGIN + BEING_ROOM + 2 ≤ PIECE_ROOM }
     ensures text { piece.new.items ≡ piece.old.items
-        ++ trace.being_text table.now spot stamp.now.ticks being.now }
+        ++ trace.being_text table.now spot being.now }
     ensures short { array_vec_len piece.new ≤ array_vec_len piece.old + BEGIN + BEING_ROOM + 2 }
 {
     if is_begun(being) {
@@ -231,7 +239,7 @@ fn add_being(piece: &mut Piece, table: &Table, spot: Spot, stamp: &Stamp, being:
 
 /// Adds the end of a slice, if there is one.
 #[inline(always)]
-pub(crate) fn add_ended(piece: &mut Piece, spot: Spot, stamp: &Stamp, begun: bool)
+pub(crate) fn add_ended(piece: &mut Piece, spot: Spot, stamp: &Timed, begun: bool)
     requires stamps { Stamps stamp.now spot }
     requires room { array_vec_len piece.old + END ≤ PIECE_ROOM }
     ensures text { piece.new.items ≡ piece.old.items ++ trace.ended begun spot }
@@ -264,15 +272,15 @@ fn add_switch(
     table: &Table,
     core: CoreId,
     time: u64,
-    stamp: &Stamp,
+    stamp: &Timed,
     before: &Option<ProcessId>,
     after: &Option<ProcessId>,
 )
-    requires stamp { IsStamp stamp.now time }
+    requires stamp { stamp.now ≡ time }
     requires room { array_vec_len piece.old + TRACK ≤ PIECE_ROOM }
     ensures text { piece.new.items ≡ piece.old.items
         ++ (trace.ended (is_some before.now) (trace.core_spot core time)
-        ++ trace.run_of table.now (trace.core_spot core time) stamp.now.ticks after.now) }
+        ++ trace.run_of table.now (trace.core_spot core time) after.now) }
     ensures short { array_vec_len piece.new ≤ array_vec_len piece.old + TRACK }
 {
     let spot = core_spot(core, time);
@@ -287,14 +295,14 @@ fn add_core(
     table: &Table,
     core: CoreId,
     time: u64,
-    stamp: &Stamp,
+    stamp: &Timed,
     before: &Option<ProcessId>,
     after: &Option<ProcessId>,
 )
-    requires stamp { IsStamp stamp.now time }
+    requires stamp { stamp.now ≡ time }
     requires room { array_vec_len piece.old + TRACK ≤ PIECE_ROOM }
     ensures text { piece.new.items ≡ piece.old.items ++ trace.core_text table.now
-        (trace.core_spot core time) stamp.now.ticks before.now after.now }
+        (trace.core_spot core time) before.now after.now }
     ensures short { array_vec_len piece.new ≤ array_vec_len piece.old + TRACK }
 {
     if is_same_process(before, after) {
@@ -314,15 +322,15 @@ fn add_change(
     table: &Table,
     process: ProcessId,
     time: u64,
-    stamp: &Stamp,
+    stamp: &Timed,
     before: &Being,
     after: &Being,
 )
-    requires stamp { IsStamp stamp.now time }
+    requires stamp { stamp.now ≡ time }
     requires room { array_vec_len piece.old + TRACK ≤ PIECE_ROOM }
     ensures text { piece.new.items ≡ piece.old.items
         ++ (trace.ended (is_begun before.now) (trace.process_spot process time)
-        ++ trace.being_text table.now (trace.process_spot process time) stamp.now.ticks after.now) }
+        ++ trace.being_text table.now (trace.process_spot process time) after.now) }
     ensures short { array_vec_len piece.new ≤ array_vec_len piece.old + TRACK }
 {
     let spot = process_spot(process, time);
@@ -337,14 +345,14 @@ fn add_process(
     table: &Table,
     process: ProcessId,
     time: u64,
-    stamp: &Stamp,
+    stamp: &Timed,
     before: &Being,
     after: &Being,
 )
-    requires stamp { IsStamp stamp.now time }
+    requires stamp { stamp.now ≡ time }
     requires room { array_vec_len piece.old + TRACK ≤ PIECE_ROOM }
     ensures text { piece.new.items ≡ piece.old.items ++ trace.process_text table.now
-        (trace.process_spot process time) stamp.now.ticks before.now after.now }
+        (trace.process_spot process time) before.now after.now }
     ensures short { array_vec_len piece.new ≤ array_vec_len piece.old + TRACK }
 {
     if is_same_being(before, after) {
@@ -392,14 +400,14 @@ fn add_cores(
     piece: &mut Piece,
     table: &Table,
     time: u64,
-    stamp: &Stamp,
+    stamp: &Timed,
     before: &[Option<ProcessId>],
     after: &[Option<ProcessId>],
 )
-    requires stamp { IsStamp stamp.now time }
+    requires stamp { stamp.now ≡ time }
     requires room { array_vec_len piece.old + TRACK * MOST_CORES ≤ PIECE_ROOM }
     ensures text { piece.new.items ≡ piece.old.items
-        ++ texts_of (trace.core_at table.now time stamp.now.ticks (with_running before.now)
+        ++ texts_of (trace.core_at table.now time (with_running before.now)
         (with_running after.now)) table.now.cores }
     ensures short { array_vec_len piece.new ≤ array_vec_len piece.old + TRACK * MOST_CORES }
 {
@@ -418,14 +426,14 @@ pub(crate) fn add_runs<S: Store>(
     table: &Table,
     store: &S,
     time: u64,
-    stamp: &Stamp,
+    stamp: &Timed,
     running: &mut [Option<ProcessId>],
 )
-    requires stamp { IsStamp stamp.now time }
+    requires stamp { stamp.now ≡ time }
     requires many { length running.old ≡ MOST_CORES }
     requires room { array_vec_len piece.old + TRACK * MOST_CORES ≤ PIECE_ROOM }
     ensures text { piece.new.items ≡ piece.old.items
-        ++ texts_of (trace.core_at table.now time stamp.now.ticks (with_running running.old)
+        ++ texts_of (trace.core_at table.now time (with_running running.old)
         (with_running (running_in (S.roster store.now)))) table.now.cores }
     ensures running { running.new ≡ running_in (S.roster store.now) }
     ensures short { array_vec_len piece.new ≤ array_vec_len piece.old + TRACK * MOST_CORES }
@@ -450,15 +458,15 @@ pub(crate) fn add_processes<S: Store>(
     store: &S,
     running: &[Option<ProcessId>],
     time: u64,
-    stamp: &Stamp,
+    stamp: &Timed,
     tracks: &mut [Being],
 )
-    requires stamp { IsStamp stamp.now time }
+    requires stamp { stamp.now ≡ time }
     requires running { running.now ≡ running_in (S.roster store.now) }
     requires many { length tracks.old ≡ length (S.roster store.now).records }
     requires room { array_vec_len piece.old + TRACK * MOST_PROCESSES ≤ PIECE_ROOM }
     ensures text { piece.new.items ≡ piece.old.items
-        ++ texts_of (trace.process_at table.now time stamp.now.ticks
+        ++ texts_of (trace.process_at table.now time
         (with_cells (map cell_on tracks.old)) (with_cells (bare_cells (S.roster store.now))))
         (length (S.roster store.now).records) }
     ensures tracks { tracks.new
@@ -478,11 +486,11 @@ pub(crate) fn add_processes<S: Store>(
 }
 
 /// Adds the ends of the slices of all processes.
-fn add_ends(piece: &mut Piece, table: &Table, time: u64, stamp: &Stamp, last: &[Being])
-    requires stamp { IsStamp stamp.now time }
+fn add_ends(piece: &mut Piece, table: &Table, time: u64, stamp: &Timed, last: &[Being])
+    requires stamp { stamp.now ≡ time }
     requires room { array_vec_len piece.old + TRACK * MOST_PROCESSES ≤ PIECE_ROOM }
     ensures text { piece.new.items ≡ piece.old.items
-        ++ texts_of (trace.process_at table.now time stamp.now.ticks
+        ++ texts_of (trace.process_at table.now time
         (with_cells (map cell_on last.now)) none_shown) (length table.now.processes) }
     ensures short { array_vec_len piece.new ≤ array_vec_len piece.old + TRACK * MOST_PROCESSES }
 {
@@ -499,22 +507,23 @@ fn add_ends(piece: &mut Piece, table: &Table, time: u64, stamp: &Stamp, last: &[
 fn add_mark(
     piece: &mut Piece,
     time: u64,
-    stamp: &Stamp,
+    stamp: &Timed,
     process: ProcessId,
     word: &str,
     detail: &str,
 )
-    requires stamp { IsStamp stamp.now time }
+    requires stamp { stamp.now ≡ time }
     requires word { length word.now ≤ MARK_WORD }
     requires detail { length detail.now ≤ MARK_DETAIL }
     requires room { array_vec_len piece.old + MARK ≤ PIECE_ROOM }
     ensures text { piece.new.items ≡ piece.old.items
-        ++ trace.mark_text time stamp.now.ticks process word.now detail.now }
+        ++ trace.mark_text time process word.now detail.now }
     ensures short { array_vec_len piece.new ≤ array_vec_len piece.old + MARK }
 {
-    add_text(piece, *b",\n{\"ph\":\"i\",\"s\":\"t\",\"pid\":2,\"tid\":");
+    add_text(piece, *b",\n{\"ph\":\"i\",\"pid\":2,\"tid\":");
     add_number(piece, u64::from(process.number()));
-    add_bytes(piece, stamp.begin());
+    add_bytes(piece, stamp.text());
+    add_text(piece, *b",\"name\":\"");
     add(piece, word);
     add(piece, detail);
     add_text(piece, *b"\"}");
@@ -522,11 +531,11 @@ fn add_mark(
 
 /// Adds the mark of a notice: its word, and the code or the type of the deadline.
 #[inline(always)]
-fn add_marked(piece: &mut Piece, time: u64, stamp: &Stamp, notice: &Notice)
-    requires stamp { IsStamp stamp.now time }
+fn add_marked(piece: &mut Piece, time: u64, stamp: &Timed, notice: &Notice)
+    requires stamp { stamp.now ≡ time }
     requires room { array_vec_len piece.old + MARK ≤ PIECE_ROOM }
     ensures text { piece.new.items ≡ piece.old.items
-        ++ trace.marked_text time stamp.now.ticks notice.now }
+        ++ trace.marked_text time notice.now }
     ensures short { array_vec_len piece.new ≤ array_vec_len piece.old + MARK }
 {
     match notice {
@@ -549,12 +558,12 @@ fn add_marked(piece: &mut Piece, time: u64, stamp: &Stamp, notice: &Notice)
 
 /// Adds the marks of all notices of an entry.
 #[inline(always)]
-fn add_marks(piece: &mut Piece, time: u64, stamp: &Stamp, notices: &[Notice])
-    requires stamp { IsStamp stamp.now time }
+fn add_marks(piece: &mut Piece, time: u64, stamp: &Timed, notices: &[Notice])
+    requires stamp { stamp.now ≡ time }
     requires few { length notices.now ≤ MOST_NOTICES }
     requires room { array_vec_len piece.old + MARK * MOST_NOTICES ≤ PIECE_ROOM }
     ensures text { piece.new.items ≡ piece.old.items
-        ++ flat_map (trace.marked_text time stamp.now.ticks) notices.now }
+        ++ flat_map (trace.marked_text time) notices.now }
     ensures short { array_vec_len piece.new ≤ array_vec_len piece.old + MARK * MOST_NOTICES }
 {
     for notice in notices {
@@ -600,11 +609,10 @@ pub(crate) fn add_notices<S: Store>(
     piece: &mut Piece,
     store: &S,
     time: u64,
-    stamp: &Stamp,
+    stamp: &Timed,
     entry: &LentEntry<'_>,
 )
-    requires stamp { IsStamp stamp.now time }
-    requires ticks { stamp.now.ticks ≡ entry.now.now }
+    requires stamp { stamp.now ≡ time }
     requires room { array_vec_len piece.old + (MARK + ARROW) * MOST_NOTICES ≤ PIECE_ROOM }
     ensures text { piece.new.items ≡ piece.old.items ++ trace.notices_text time entry.entry.now
         (with_cells (bare_cells (S.roster store.now))) }
@@ -640,13 +648,13 @@ pub fn put_column<S: Store>(
 
 /// Adds the ends of all slices.
 #[tactic(auto, using(std::proofs::Common::append_assoc))]
-fn add_foot(piece: &mut Piece, table: &Table, time: u64, stamp: &Stamp, last: &Tracks)
-    requires stamp { IsStamp stamp.now time }
+fn add_foot(piece: &mut Piece, table: &Table, time: u64, stamp: &Timed, last: &Tracks)
+    requires stamp { stamp.now ≡ time }
     requires room { array_vec_len piece.old
         + TRACK * (MOST_CORES + MOST_PROCESSES + MOST_OBJECTS) ≤ PIECE_ROOM }
     ensures { piece.new.items ≡ piece.old.items
-        ++ (trace.changes_text table.now time stamp.now.ticks last.now none_shown
-        ++ trace.mutexes_text table.now time stamp.now.ticks last.now.counts.owners []) }
+        ++ (trace.changes_text table.now time last.now none_shown
+        ++ trace.mutexes_text table.now time last.now.counts.owners []) }
 {
     add_cores(piece, table, time, stamp, last.running(), &[]);
     add_ends(piece, table, time, stamp, last.tracks());
@@ -659,13 +667,12 @@ pub fn put_foot(
     text: &mut Vec<u8>,
     table: &Table,
     time: u64,
-    now: u64,
     last: &Tracks,
 ) -> Result<(), AllocError>
     ensures { OnOk result (text.new.items ≡ text.old.items
-        ++ trace.foot_text table.now time now last.now) }
+        ++ trace.foot_text table.now time last.now) }
 {
-    let stamp = Stamp::new(time, now);
+    let stamp = Timed::new(time);
     let mut piece = Piece::new();
     add_foot(&mut piece, table, time, &stamp, last);
     text.extend_from_slice(piece.as_slice())?;

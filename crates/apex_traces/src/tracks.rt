@@ -5,7 +5,6 @@ ghost use Rattle.apex_calls.specs.Lines.{IsPrintable};
 ghost use Rattle.apex_machine.specs.processes.Roster.{record_at};
 ghost use Rattle.apex_moments.specs.Counts.{HasCounts, counts_of};
 ghost use Rattle.apex_moments.specs.Moments.{moment_in, moment_of, running_in};
-ghost use Rattle.apex_traces.specs.Stamps.{IsStamp};
 ghost use Rattle.apex_traces.specs.Trace.{column_text};
 ghost use Rattle.apex_traces.specs.Tracks.{bare, cell_on, track_of};
 ghost use Rattle.apex_traces.specs.declared.beings.Being.TheVariants.{Dormant};
@@ -14,7 +13,7 @@ use crate::beings::{Being, being_of, is_awaiting};
 use crate::calls::{Said, Span};
 use crate::changes::add_changes;
 use crate::pieces::Piece;
-use crate::stamps::{Stamp, Timed};
+use crate::stamps::Timed;
 use crate::trace::{add_call, add_notices, add_processes, add_runs};
 use apex_configs::Table;
 use apex_dispatch::{Kernel, Objects};
@@ -170,7 +169,7 @@ impl Tracks {
             (counts_of table.now (S.roster store.now) objects.now)) }
     {
         let time = span.end;
-        let stamp = Stamp::new(time, entry.now);
+        let stamp = Timed::new(time);
         self.latest.reach(span.begin);
         self.piece.clear();
         add_call(
@@ -189,7 +188,7 @@ impl Tracks {
         let counts = &mut self.counts;
         add_changes(counts, &mut self.piece, table, objects, store, time, &stamp);
         add_notices(&mut self.piece, store, time, &stamp, entry);
-        self.latest = stamp.into_time();
+        self.latest = stamp;
         put_bytes(text, self.piece.as_slice())
     }
 

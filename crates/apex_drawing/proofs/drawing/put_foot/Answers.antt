@@ -25,5 +25,5 @@ returns-in-Trace g c =
     let is : c.args.last.now ≡ bare (moment_in table machine) = rw c.in-Trace.is at c.requires.shown in
     rw c.in-Trace.is (on_ok_weaker c.put_foot-in-Trace.result
     (λ put. (rw (c.table-in-Trace.ensures, c.time.ensures, c.next-end.ensures, c.requires.instant, c.now.ensures, is) at put)
-    ∙ ap (λ l. c.args.text.now.items ++ l) (foot_same table (end_time c.in-Trace.tick machine) machine.roster.now (moment_in table machine)))
+    ∙ ap (λ l. c.args.text.now.items ++ l) (foot_same table (end_time c.in-Trace.tick machine) (moment_in table machine)))
     c.put_foot-in-Trace.ensures)

@@ -11,7 +11,7 @@ use Rattle.apex_traces.proofs.changes.add_changes.Goals as goal
 
 pub returns-clause-text : goal.returns-clause-text
 returns-clause-text g c =
-    objects_whole c.args.table.now c.args.time c.args.stamp.now.ticks c.args.counts.now (g.S.Store.roster c.args.store.now) c.args.objects.now
+    objects_whole c.args.table.now c.args.time c.args.counts.now (g.S.Store.roster c.args.store.now) c.args.objects.now
     _ _ _ _ _ _ _ _ _ _ _
     (c.as_mut_slice-values.ensures.value ∙ ap (λ (s : Counts). s.values) c.counts.view_is)
     (c.as_mut_slice-contents.ensures.value ∙ ap (λ (s : Counts). s.contents) c.counts.view_is)

@@ -25,7 +25,7 @@ loop-place-preserved g c =
       stamp = at.stamp;
       end = at.end;
       owners = changed_at (owner roster) place old _ _ _ kept at.owners refl now;
-      text = text_next (trace.mutex_at table c.args.time c.args.stamp.now.ticks old (owners_in table roster)) place _ _ _ at.text
+      text = text_next (trace.mutex_at table c.args.time old (owners_in table roster)) place _ _ _ at.text
           (rw (was, is, c.at-mutex.ensures) at c.add_mutex.ensures.text);
       short = omega (arith, at.short, c.add_mutex.ensures.short);
     }

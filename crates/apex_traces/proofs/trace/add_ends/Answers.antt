@@ -17,7 +17,7 @@ loop-place-preserved c =
     record {
       stamp = c.loop-place.invariant.stamp;
       many = c.loop-place.invariant.many;
-      text = text_next (trace.process_at c.args.table.now c.args.time c.args.stamp.now.ticks (with_cells (map cell_on c.args.last.now)) none_shown) place _ _ _ c.loop-place.invariant.text
+      text = text_next (trace.process_at c.args.table.now c.args.time (with_cells (map cell_on c.args.last.now)) none_shown) place _ _ _ c.loop-place.invariant.text
           (rw (c.at-process.ensures, was) at c.add_process.ensures.text);
       short = omega (arith, c.loop-place.invariant.short, c.add_process.ensures.short);
     }

@@ -15,7 +15,6 @@ pub loop-place-preserved : goal.loop-place-preserved
 loop-place-preserved g c =
     let roster = g.S.Store.roster c.args.store.now in
     let table = c.args.table.now in
-    let ticks = c.args.stamp.now.ticks in
     let at = c.loop-place.invariant in
     let place = c.loop-place.place in
     let old = c.args.tracks.now in
@@ -25,7 +24,7 @@ loop-place-preserved g c =
     let was : before ≡ being_in (slice_index_or (map cell_on old) place no_cell) =
     c.index-tracks-place.is ∙ kept_at (track_of roster) place old _ before kept at.tracks
     ∙ same_at old place before Dormant kept ∙ track_seen old place in
-    let changes = trace.process_at table c.args.time ticks (with_cells (map cell_on old)) (with_cells (bare_cells roster)) in
+    let changes = trace.process_at table c.args.time (with_cells (map cell_on old)) (with_cells (bare_cells roster)) in
     elim c.if-not-is_still.branch [
       | then-not-is_still w ↦
           let track : w.track_by-track.result ≡ track_of roster place = rw c.at-process.ensures at w.track_by-track.ensures in
@@ -50,7 +49,7 @@ loop-place-preserved g c =
             running = at.running;
             tracks = rw w.tracks-is (still_at (track_of roster) place old _ before kept at.tracks (sym c.index-tracks-place.is ∙ sym still));
             text = text_next changes place _ _ _ at.text
-                (rw w.piece-is (process_still table c.args.time ticks place (being_in (slice_index_or (map cell_on old) place no_cell))
+                (rw w.piece-is (process_still table c.args.time place (being_in (slice_index_or (map cell_on old) place no_cell))
                 (being_in (slice_index_or (bare_cells roster) place no_cell)) c.loop-place.piece.items (sym was ∙ is)));
             short = rw w.piece-is (omega (arith, at.short));
           }

@@ -29,7 +29,7 @@ loop-place-preserved g c =
       stamp = at.stamp;
       end = at.end;
       runs = changed_at (chosen roster) place old _ _ _ kept at.runs put now;
-      text = text_next (trace.core_at c.args.table.now c.args.time c.args.stamp.now.ticks (with_running old) (with_running (running_in roster))) place _ _ _ at.text
+      text = text_next (trace.core_at c.args.table.now c.args.time (with_running old) (with_running (running_in roster))) place _ _ _ at.text
           (rw (was, is, c.new-core.ensures) at c.add_core.ensures.text);
       short = omega (arith, at.short, c.add_core.ensures.short);
     }

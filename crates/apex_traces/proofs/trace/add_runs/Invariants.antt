@@ -7,7 +7,6 @@ use Rattle.apex_machine.specs.text.Listing.{texts_of}
 use Rattle.apex_types.specs.declared.limits.TheConstants.{MOST_CORES}
 use Rattle.apex_moments.specs.Moments.{running_in, with_running}
 use Rattle.apex_moments.specs.Places.{of_places}
-use Rattle.apex_traces.specs.Stamps.{IsStamp}
 use Rattle.apex_traces.specs.Trace as trace
 use Rattle.apex_traces.proofs.trace.add_runs.Given as goal
 
@@ -15,10 +14,10 @@ abbrev pub invariant-loop-place : goal.invariant-loop-place
 invariant-loop-place g l =
     let roster = g.S.Store.roster l.store in
     record {
-      stamp : IsStamp l.stamp l.time;
+      stamp : l.stamp ≡ l.time;
       end : l.place-end ≡ l.table.cores;
       runs : l.running ≡ of_places (chosen roster) l.place ++ drop l.place l.fn.running;
-      text : l.piece.items ≡ l.fn.piece.items ++ texts_of (trace.core_at l.table l.time l.stamp.ticks (with_running l.fn.running) (with_running (running_in roster))) l.place;
+      text : l.piece.items ≡ l.fn.piece.items ++ texts_of (trace.core_at l.table l.time (with_running l.fn.running) (with_running (running_in roster))) l.place;
       short : array_vec_len l.piece ≤ array_vec_len l.fn.piece + TRACK * l.place;
     }
 
@@ -28,6 +27,6 @@ invariant-loop-place-2 g l =
     record {
       below : l.place ≤ MOST_CORES;
       runs : l.running ≡ of_places (chosen roster) l.place ++ drop l.place l.fn.running;
-      text : l.piece.items ≡ l.fn.piece.items ++ texts_of (trace.core_at l.table l.time l.stamp.ticks (with_running l.fn.running) (with_running (running_in roster))) l.table.cores;
+      text : l.piece.items ≡ l.fn.piece.items ++ texts_of (trace.core_at l.table l.time (with_running l.fn.running) (with_running (running_in roster))) l.table.cores;
       short : array_vec_len l.piece ≤ array_vec_len l.fn.piece + TRACK * MOST_CORES;
     }

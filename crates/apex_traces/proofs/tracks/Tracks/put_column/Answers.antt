@@ -10,7 +10,6 @@ use Rattle.apex_machine.specs.text.Listing.{texts_of}
 use Rattle.apex_types.specs.declared.limits.TheConstants.{MOST_CORES}
 use Rattle.apex_moments.specs.Counts.{Counts, HasCounts, counts_of}
 use Rattle.apex_moments.specs.Moments.{Shown, moment_of, with_cells}
-use Rattle.apex_moments.specs.Terms.{Entry}
 use Rattle.apex_traces.specs.Trace.{call_text, column_text, process_at}
 use Rattle.apex_traces.specs.Tracks.{bare, bare_cells, cell_on, track_of}
 use Rattle.apex_traces.specs.declared.beings.Being.{Being}
@@ -53,7 +52,6 @@ returns-clause-text g c =
     let before = shown_of (map cell_on c.self.inside.tracks.items) c.self.inside.running.items c.self.inside.counts in
     let after = bare (moment_of roster (counts_of table roster c.args.objects.now)) in
     let cells = with_cells (bare_cells roster) in
-    let now : c.new-stamp.result.ticks ≡ entry.now = c.new-stamp.ensures.ticks ∙ ap (λ (e : Entry). e.now) c.entry.view_is in
     let call : c.add_call.new.piece.items ≡ call_text table span entry after =
     (rw c.clear.ensures at c.add_call.ensures.text) ∙ call_same table span entry cells after (λ p. refl) in
     let notices = notices_same span.end entry cells after (λ p. refl) in
@@ -62,10 +60,10 @@ returns-clause-text g c =
     (column_whole table span before entry after text c.add_call.new.piece.items c.add_runs.new.piece.items
     c.add_processes.new.piece.items c.add_changes.new.piece.items c.add_notices.new.piece.items
     c.put_bytes.new.text.items call
-    (rw (c.as_mut_slice-running.ensures.value, now) at c.add_runs.ensures.text)
-    ((rw (c.as_mut_slice-tracks.ensures.value, now) at c.add_processes.ensures.text)
-    ∙ ap (λ n. c.add_runs.new.piece.items ++ texts_of (process_at table span.end entry.now before after) n) (sym c.requires.table))
-    (rw now at c.add_changes.ensures.text)
+    (rw c.as_mut_slice-running.ensures.value at c.add_runs.ensures.text)
+    ((rw c.as_mut_slice-tracks.ensures.value at c.add_processes.ensures.text)
+    ∙ ap (λ n. c.add_runs.new.piece.items ++ texts_of (process_at table span.end before after) n) (sym c.requires.table))
+    c.add_changes.ensures.text
     (c.add_notices.ensures.text ∙ ap (λ l. c.add_changes.new.piece.items ++ l) notices)
     (rw c.as_slice.ensures.value at put)))
     c.put_bytes.ensures
