@@ -103,7 +103,7 @@ impl Side {
         ensures few { length result.now ≤ MOST_COLUMNS }
     {
         let (_, behind) = columns.split_at(self.left_out(columns.len()));
-        let (drawn, _) = behind.split_at(behind.len().min(MOST_COLUMNS as usize));
+        let (drawn, _) = behind.split_at((MOST_COLUMNS as usize).min(behind.len()));
         drawn
     }
 

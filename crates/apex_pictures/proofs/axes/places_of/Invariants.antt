@@ -5,7 +5,7 @@ use Rattle.apex_moments.specs.Places.{of_places}
 use Rattle.apex_pictures.proofs.axes.places_of.Given as goal
 
 abbrev pub invariant-loop-before : goal.invariant-loop-before
-invariant-loop-before g l = record {
+invariant-loop-before l = record {
   end : l.before-end ≡ length l.entries;
   items : l.places.items ≡ of_places (place_of l.axis l.entries) l.before;
 }
