@@ -1,9 +1,9 @@
 //! The faults with which a showing ends, and their lines.
-ghost use Rattle.std.specs.Prelude.{◌≡◌, ◌+◌, ◌≤◌, ◌++◌, decimal};
+ghost use Rattle.std.specs.Prelude.{◌≡◌, ◌+◌, ◌≤◌, ◌++◌, decimal, length};
 ghost use Rattle.arrayvec.specs.ArrayString.{array_string_len};
 ghost use Rattle.apex_console.specs.Faults.{fault_in, fault_of_read};
 ghost use Rattle.apex_console.specs.declared.CliFault.TheVariants.{Memory};
-ghost use Rattle.apex_views.specs.Faults.{bound_text, end_part, entries_text, excerpt_line, fault_of_items, line_part, reason_text, schedule_line, time_text, too_many_text, window_line};
+ghost use Rattle.apex_views.specs.Faults.{bound_text, end_part, entries_text, excerpt_line, fault_of_items, line_part, reason_text, schedule_line, sought_text, time_text, too_many_text, window_line};
 ghost use Rattle.apex_views.specs.Shows.{first_fault};
 ghost use Rattle.apex_views.specs.declared.faults.ShowFault.TheVariants.{Common};
 ghost use Rattle.apex_views.specs.declared.faults.TheConstants.{LINE_ROOM};
