@@ -4,19 +4,10 @@
 //! run.
 #![tactic(auto)]
 
-mod checking;
-mod dumping;
-mod ends;
-mod faults;
-mod linting;
-mod program;
-mod stepping;
-mod whys;
-
-use crate::program::serve;
 use apex_console::given_words;
 use apex_history::Counted;
 use apex_inquiries::Progress;
+use apex_lab_cli::serve;
 use std::io;
 use std::process::ExitCode;
 

@@ -1,0 +1,14 @@
+-- The line feed comes behind the reason.
+use Rattle.std.proofs.lemmas.Result.{on_err_weaker}
+use Rattle.apex_history.proofs.Outcomes.{OnErr-always}
+use Rattle.apex_history.proofs.Passing.{beginning_longer}
+use Rattle.apex_report.proofs.Printed.{beginning_behind}
+use Rattle.apex_lab_cli.proofs.whys.print_reason.Goals as goal
+
+pub returns-in_err-write_all-clause-err : goal.returns-in_err-write_all-clause-err
+returns-in_err-write_all-clause-err g c =
+    OnErr-always c.from_residual.result (beginning_longer _ _ _ _ c.in_err-write_all.ensures.beginning)
+
+pub returns-clause-err : goal.returns-clause-err
+returns-clause-err g c =
+    on_err_weaker c.write_all-2.result (beginning_behind _ _ _ _ _ c.in_ok-write_all.ensures.bytes) c.write_all-2.ensures.beginning
