@@ -1,3 +1,4 @@
 pub mod Said
 pub mod Times
 pub mod Apart
+pub mod Joined

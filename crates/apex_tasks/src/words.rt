@@ -33,12 +33,13 @@ pub enum SourceWords<'a> {
 #[derive(Clone, Copy)]
 pub enum ViewWords<'a> {
     /// As SVG, with the texts of the first bound, of the last one, of the axis and of the names of
-    /// processes, if they are given.
+    /// processes, if they are given, and whether idle entries are folded.
     Svg {
         first: Option<&'a str>,
         last: Option<&'a str>,
         axis: Option<&'a str>,
         only: Option<&'a str>,
+        fold: bool,
     },
     /// As a trace, with the text of the length of a tick, if it is given.
     Trace(Option<&'a str>),
@@ -115,7 +116,8 @@ fn svg_command<'a>(alloc: Global) -> Result<Command<'a>, AllocError>
     let with_from = view_command(alloc, "svg")?.arg(option(alloc, "from"))?;
     let with_to = with_from.arg(option(alloc, "to"))?;
     let with_by = with_to.arg(option(alloc, "by"))?;
-    with_by.arg(option(alloc, "only"))
+    let with_only = with_by.arg(option(alloc, "only"))?;
+    with_only.arg(flag(alloc, "fold"))
 }
 
 fn trace_command<'a>(alloc: Global) -> Result<Command<'a>, AllocError>
@@ -232,8 +234,8 @@ fn command<'a>(alloc: Global) -> Result<Command<'a>, AllocError>
 
 /// What the words ask for: `svg`, `trace`, `lines`, `status`, `report` or `schedule`, with
 /// `--schedule S`, with `--until T [--turns K] [--early E]`, or with neither; `svg` also with
-/// `[--from N] [--to M] [--by AXIS] [--only NAME,NAME]`, `trace` with `[--tick-us N]`, and `lines`, `status` and `report` with
-/// `[--json]`; or `search`
+/// `[--from N] [--to M] [--by AXIS] [--only NAME,NAME] [--fold]`, `trace` with `[--tick-us N]`, and
+/// `lines`, `status` and `report` with `[--json]`; or `search`
 /// with `[--for WORD] [--process P] [--service WORD] [--turns K] [--early E] [--states N] [--jobs N]`,
 /// or with `--worst P` in place of the first three; or `lint` with
 /// `[--json] [--name FILE] [--allow WORD,WORD]`; or `step` with `[--json]`;
@@ -302,6 +304,7 @@ fn svg_given<'a>(matches: &ArgMatches<'a>) -> ViewWords<'a>
         last: matches.get_str("to"),
         axis: matches.get_str("by"),
         only: matches.get_str("only"),
+        fold: has_flag(matches, "fold"),
     }
 }
 
