@@ -6,7 +6,7 @@ use Rattle.std.specs.Prelude.{max}
 use Rattle.apex_machine.specs.Machine.{opening, run}
 use Rattle.apex_machine.specs.table.Table.{Table, IsLawful}
 use Rattle.apex_pictures.specs.Axes.{all_ticks, idle_width, place_of, ticks_before, ticks_width, time_of}
-use Rattle.apex_pictures.specs.Excerpts.{columns_of, never}
+use Rattle.apex_pictures.specs.Excerpts.{columns_of, drawn_at, never}
 use Rattle.apex_pictures.specs.Laws.{AreApart, ColumnsAreApart}
 use Rattle.apex_pictures.specs.declared.excerpts.Extent.{Extent}
 use Rattle.apex_pictures.specs.declared.excerpts.Timed.{Timed}
@@ -14,6 +14,7 @@ use Rattle.apex_moments.specs.Terms.{Event}
 use Rattle.apex_scales.specs.declared.Axis.{Axis}
 use Rattle.apex_scales.specs.declared.Axis.TheVariants.{Entries, Time}
 use Rattle.apex_pictures.specs.declared.axes.TheConstants.{COLUMN, MOST_ROOM, TICK}
+use Rattle.apex_pictures.proofs.Numbers.{columns_follow, numbered_after}
 use Rattle.apex_pictures.proofs.Times.{AreInOrder, columns_in_order, timed_after}
 
 div_rises : (a b c : ℕ) → 0 < c → a ≤ b → a / c ≤ b / c
@@ -49,13 +50,15 @@ width_within Time all ticks within = omega (arith, share_within all ticks within
 width_whole : (all ticks : ℕ) → TICK * all ≤ MOST_ROOM → ticks_width all ticks ≡ TICK * ticks
 width_whole all ticks room = omega (arith, share_whole all ticks room)
 
-places_apart : (axis : Axis) (entries : List Timed) (n : ℕ) → time_of entries 0 ≤ time_of entries n
-    → time_of entries n ≤ time_of entries (n + 1) → time_of entries n ≤ time_of entries (length entries - 1) → AreApart axis entries n
-places_apart axis entries n begun forward within =
+places_apart : (axis : Axis) (entries : List Timed) (n : ℕ) → (drawn_at entries n).number < (drawn_at entries (n + 1)).number
+    → time_of entries 0 ≤ time_of entries n → time_of entries n ≤ time_of entries (n + 1)
+    → time_of entries n ≤ time_of entries (length entries - 1) → AreApart axis entries n
+places_apart axis entries n follows begun forward within =
     let all = all_ticks entries in
     let here = ticks_before entries n in
     let next = ticks_before entries (n + 1) in
     record {
+      follows = follows;
       apart = omega (arith, width_rises axis all here next (omega (arith, forward)));
       beside = λ same.
           let width = ap (λ (t : ℕ). idle_width axis all (t - time_of entries 0)) same in
@@ -78,6 +81,7 @@ columns_apart axis table lawful events extent others many n within =
     let entries = take many (drop others (columns_of extent machine.history)) in
     let now = machine.roster.now in
     let is = columns_in_order extent others many machine.history now (timed_after table lawful events) in
-    places_apart axis entries n (rises_to entries now 0 n is (omega arith) (omega (arith, within)))
+    places_apart axis entries n (columns_follow extent others many n machine.history (numbered_after table events) within)
+    (rises_to entries now 0 n is (omega arith) (omega (arith, within)))
     (rises_to entries now n (n + 1) is (omega arith) within)
     (rises_to entries now n (length entries - 1) is (omega (arith, within)) (omega (arith, within)))

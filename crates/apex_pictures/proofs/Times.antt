@@ -73,8 +73,8 @@ timed_after table lawful events =
 pub timed_replay : (table : Table) → IsLawful table → (machine : Machine) → replay table machine.history ≡ machine → IsOrdered machine
 timed_replay table lawful machine again = subst IsOrdered again (timed_after table lawful (events_of machine.history))
 
--- an entry like no other
-nothing : Entry
+-- the entry of no event
+pub nothing : Entry
 nothing = record { number = 0; now = 0; who = Ticker; process = Nobody; call = None; reply = Idle; notices = [] }
 
 -- the times of some entries are in order if the entries are

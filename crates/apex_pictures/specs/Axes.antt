@@ -33,8 +33,8 @@ abbrev pub all_ticks : List Timed → ℕ
 all_ticks entries = ticks_before entries (length entries - 1)
 
 -- The place of the column behind n others, if these entries have one: `COLUMN` pixels for each column
--- before it, and the width of the ticks from the first of the entries to that of the column. An entry
--- that is folded is none of them, and the ticks around it stay.
+-- before it, and the width of the ticks from the first entry to that of the column. Folded entries are
+-- none of these, and the ticks around them stay.
 abbrev pub place_of : Axis → List Timed → ℕ → ℕ
 place_of axis entries n =
     COLUMN * n + idle_width axis (all_ticks entries) (ticks_before entries n)

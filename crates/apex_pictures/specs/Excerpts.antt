@@ -17,12 +17,11 @@ timed entry = record { number = entry.number; now = entry.now }
 abbrev pub never : Timed
 never = record { number = 0; now = 0 }
 
--- an entry is idle: it has neither a call nor a notice, as an idle turn has none, and a tick at which
--- nothing happens
+-- an entry is idle, an idle turn or a tick at which nothing happens: it has neither a call nor a notice
 abbrev pub is_idle : Entry → Bool
 is_idle entry = is_none entry.call && length entry.notices == 0
 
--- an entry has a column, if idle entries are folded, or if none are
+-- an entry is not folded: it is not idle, or idle entries are not folded
 abbrev pub is_unfolded : Bool → Entry → Bool
 is_unfolded fold entry = not (fold && is_idle entry)
 
@@ -32,16 +31,16 @@ has_column extent entry =
     (nat_le extent.first entry.number && nat_le entry.number extent.last)
     && is_unfolded extent.fold entry
 
--- the entries of a history that have a column in an extent, were there room for all of them
+-- the entries of a history that have a column in an extent, if there is room for all of them
 abbrev pub columns_of : Extent → List Entry → List Timed
 columns_of extent history = map timed (filter (has_column extent) history)
 
--- how many columns, of so many, come before those that are drawn on this side
+-- how many of these columns come before those that are drawn on this side
 abbrev pub left_out : Side → ℕ → ℕ
 left_out First columns = 0
 left_out Last columns = columns - MOST_COLUMNS
 
--- at most `MOST_COLUMNS` of these on this side
+-- `MOST_COLUMNS` of these at the most, on this side
 abbrev pub cut : Side → List Timed → List Timed
 cut side columns = take MOST_COLUMNS (drop (left_out side (length columns)) columns)
 
@@ -49,7 +48,7 @@ cut side columns = take MOST_COLUMNS (drop (left_out side (length columns)) colu
 abbrev pub drawn : Extent → List Entry → List Timed
 drawn extent history = cut extent.side (columns_of extent history)
 
--- of these entries that behind n others
+-- the entry behind n others of these
 abbrev pub drawn_at : List Timed → ℕ → Timed
 drawn_at entries n = slice_index_or entries n never
 

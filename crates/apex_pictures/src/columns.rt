@@ -27,7 +27,7 @@ pub struct Columns {
     pub behind: u32,
 }
 
-/// The entries of a kernel's history that have a column in an extent, were there room for all of them.
+/// The entries of a kernel's history that have a column in an extent, if there is room for all of them.
 fn columns_of<S: Store>(
     alloc: Global,
     kernel: &Kernel<S>,

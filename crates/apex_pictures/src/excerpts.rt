@@ -56,7 +56,7 @@ fn is_idle(entry: &LentEntry<'_>) -> bool
     entry.call.is_none() && entry.notices.is_empty()
 }
 
-/// Whether the entry has a column, if idle entries are folded, or if none are.
+/// Whether the entry is not folded.
 pub(crate) fn is_unfolded(fold: bool, entry: &LentEntry<'_>) -> bool
     ensures { result ≡ is_unfolded fold entry.entry.now }
 {
@@ -76,7 +76,7 @@ impl Timed {
 }
 
 impl Extent {
-    /// Whether the entry has a column, were there room for all of them.
+    /// Whether the entry has a column, if there is room for all of them.
     pub(crate) fn has_column(self, entry: &LentEntry<'_>) -> bool
         ensures { result ≡ has_column self entry.entry.now }
     {
@@ -86,7 +86,7 @@ impl Extent {
 }
 
 impl Side {
-    /// How many columns, of so many, come before those that are drawn.
+    /// How many of these columns come before those that are drawn.
     fn left_out(self, columns: usize) -> usize
         ensures value { result ≡ left_out self columns }
         ensures within { result ≤ columns }
