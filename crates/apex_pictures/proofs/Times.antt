@@ -15,9 +15,10 @@ use Rattle.apex_types.specs.declared.entries.Who.TheVariants.{Ticker}
 use Rattle.apex_laws.proofs.Runs.{accept-full, accept-room}
 use Rattle.apex_laws.proofs.Sound.{IsSound, forward_after, sound_accept, sound_opening}
 use Rattle.apex_pictures.specs.Axes.{time_of}
-use Rattle.apex_pictures.specs.Excerpts.{columns_of, has_column, never, timed}
+use Rattle.apex_pictures.specs.Excerpts.{columns_of, drawn, has_column, left_out, never, timed}
 use Rattle.apex_pictures.specs.declared.excerpts.Extent.{Extent}
 use Rattle.apex_pictures.specs.declared.excerpts.Timed.{Timed}
+use Rattle.apex_pictures.specs.declared.excerpts.TheConstants.{MOST_COLUMNS}
 use Rattle.apex_moments.specs.Terms.{Entry, Event}
 use Rattle.apex_moments.proofs.Pictured.{event_timed}
 
@@ -70,7 +71,7 @@ pub timed_after : (table : Table) → IsLawful table → (events : List Event) �
 timed_after table lawful events =
     timed_run table lawful events (opening table) (sound_opening table lawful) (timed_none _)
 
-pub timed_replay : (table : Table) → IsLawful table → (machine : Machine) → replay table machine.history ≡ machine → IsOrdered machine
+timed_replay : (table : Table) → IsLawful table → (machine : Machine) → replay table machine.history ≡ machine → IsOrdered machine
 timed_replay table lawful machine again = subst IsOrdered again (timed_after table lawful (events_of machine.history))
 
 -- the entry of no event
@@ -109,7 +110,14 @@ columns_in_order extent others many history now is =
           (rises_alone columns (IsNonDecreasingBy-filter (λ (e : Entry). e.now) (has_column extent) history is.rises)));
     }
 
--- the last of the entries is not later than now
+-- so are those that are drawn
+pub drawn_in_order : (table : Table) → IsLawful table → (machine : Machine) → replay table machine.history ≡ machine
+    → (extent : Extent) → AreInOrder (drawn extent machine.history) machine.roster.now
+drawn_in_order table lawful machine again extent =
+    columns_in_order extent (left_out extent.side (length (columns_of extent machine.history))) MOST_COLUMNS
+    machine.history machine.roster.now (timed_replay table lawful machine again)
+
+-- no entry that has a column is later than now
 pub last_before : (entries : List Timed) (now n : ℕ) → AreInOrder entries now → time_of entries n ≤ now
 last_before entries now n is = elim (cases_lt n (length entries)) [
   | inl inside ↦ is.before n never inside

@@ -18,7 +18,7 @@ use itoa::Buffer;
 use std::alloc::AllocError;
 
 /// Room for the bytes of a line that reports a fault.
-const LINE_ROOM: usize = 160;
+const LINE_ROOM: usize = 176;
 
 /// A line that reports a fault.
 pub type Line = ArrayString<LINE_ROOM>;
