@@ -73,7 +73,7 @@ pub(crate) fn frame_for<S: Store>(
     let entries = kernel.entries().len();
     let extent = extent_of(departure, entries, chart.fold, span);
     let frame = Frame::new(alloc, kernel, chart.axis, extent, only)?;
-    if frame.columns.drawn.is_empty() {
+    if frame.columns.drawn.as_slice().is_empty() {
         return Ok(None);
     }
     let frame = marked(alloc, frame, departure, extent, entries)?;
