@@ -1,19 +1,16 @@
 -- Columns are apart, along either axis.
-use Rattle.std.proofs.Common.{◌≡◌, ◌∙◌, ℕ, ◌+◌, ◌-◌, ◌*◌, ◌/◌, ◌<◌, ◌≤◌, List, ap, arith, drop, le_trans, length, refl, sym, take}
+use Rattle.std.proofs.Common.{◌≡◌, ℕ, ◌+◌, ◌-◌, ◌*◌, ◌/◌, ◌<◌, ◌≤◌, List, ap, arith, drop, le_trans, length, take}
 use Rattle.std.proofs.Math.Nat.{div-le_of_le-mul, div-mul-le_self, mul-le-mul_left}
 use Rattle.std.proofs.lemmas.Nat.{le-div}
 use Rattle.std.specs.Prelude.{max}
 use Rattle.apex_machine.specs.Machine.{opening, run}
-use Rattle.apex_machine.specs.table.Table.{Table, IsLawful}
-use Rattle.apex_pictures.specs.Axes.{all_ticks, idle_width, place_of, ticks_before, ticks_width, time_of}
+use Rattle.apex_pictures.specs.Axes.{all_ticks, idle_width, ticks_before, ticks_width, time_of}
 use Rattle.apex_pictures.specs.Excerpts.{columns_of, drawn_at, never}
 use Rattle.apex_pictures.specs.Laws.{AreApart, ColumnsAreApart}
-use Rattle.apex_pictures.specs.declared.excerpts.Extent.{Extent}
 use Rattle.apex_pictures.specs.declared.excerpts.Timed.{Timed}
-use Rattle.apex_moments.specs.Terms.{Event}
 use Rattle.apex_scales.specs.declared.Axis.{Axis}
 use Rattle.apex_scales.specs.declared.Axis.TheVariants.{Entries, Time}
-use Rattle.apex_pictures.specs.declared.axes.TheConstants.{COLUMN, MOST_ROOM, TICK}
+use Rattle.apex_pictures.specs.declared.axes.TheConstants.{MOST_ROOM, TICK}
 use Rattle.apex_pictures.proofs.Numbers.{columns_follow, numbered_after}
 use Rattle.apex_pictures.proofs.Times.{AreInOrder, columns_in_order, timed_after}
 

@@ -1,5 +1,5 @@
 -- At an idle entry no process changes.
-use Rattle.std.proofs.Common.{◌≡◌, ◌∙◌, ℕ, ◌<◌, Bool, true, ◌&&◌, ◌==◌, List, [], ◌∷◌, ◌++◌, inl, inr, All, Option, None, Some, ap, arith, length, length-append, refl, subst, sym}
+use Rattle.std.proofs.Common.{◌≡◌, ◌∙◌, ℕ, ◌+◌, ◌<◌, true, ◌==◌, List, [], ◌∷◌, ◌++◌, inl, inr, All, Option, None, Some, ap, arith, length, length-append, refl, subst, sym}
 use Rattle.std.specs.List.{last_or}
 use Rattle.std.specs.Prelude.{is_none}
 use Rattle.std.proofs.lemmas.Bool.{and_parts, cases_lt, eqb-true}
@@ -10,19 +10,22 @@ use Rattle.apex_machine.specs.declared.records.Wait.TheVariants.{Start, Time, Pe
 use Rattle.apex_machine.specs.Deeds.{Objects, chosen_deed, script_deed, step_of, tick_deed, turn_deed}
 use Rattle.apex_machine.specs.Machine.{Machine, accept, entry_of, objects_after, open_work, opening, run, situation_of}
 use Rattle.apex_machine.specs.Situations.{due_call}
-use Rattle.apex_machine.specs.Terms.{Call, Notice, OpenWork, Wait}
-use Rattle.apex_machine.specs.Ticks.{miss, serve_deadlines, serve_due, serve_instant, serve_missed, tick_goal, wait_over}
+use Rattle.apex_machine.specs.Terms.{Call, Notice}
+use Rattle.apex_machine.specs.declared.records.Wait.{Wait}
+use Rattle.apex_machine.specs.declared.works.OpenWork.{OpenWork}
+use Rattle.apex_machine.specs.Ticks.{pass_time, serve_deadlines, serve_due, serve_instant, serve_missed, tick_goal, wait_over}
 use Rattle.apex_machine.specs.processes.Dues.{first_due, first_missed}
 use Rattle.apex_machine.specs.processes.Roster.{Roster, record_at}
 use Rattle.apex_machine.specs.processes.Running.{chosen}
-use Rattle.apex_machine.specs.processes.Stamps.{advance_to, set_deadline, without_due}
+use Rattle.apex_machine.specs.processes.Stamps.{advance_to, without_due}
 use Rattle.apex_machine.specs.table.Table.{Table}
 use Rattle.apex_machine.proofs.InTurn.{holds_in_turn}
 use Rattle.apex_laws.proofs.Runs.{accept-full, accept-room}
 use Rattle.apex_laws.proofs.Sound.{deed_at, happened, happens, who_of}
 use Rattle.apex_moments.specs.Moments.{Column, IsPictured, cell_of, picture}
 use Rattle.apex_moments.specs.Places.{of_places}
-use Rattle.apex_moments.specs.Terms.{Cell, Entry, Event}
+use Rattle.apex_moments.specs.Terms.{Entry, Event}
+use Rattle.apex_moments.specs.declared.moments.Cell.{Cell}
 use Rattle.apex_moments.proofs.Pictured.{column_more, pictured_accept, pictured_opening}
 use Rattle.apex_pictures.specs.Excerpts.{is_idle}
 use Rattle.apex_pictures.specs.Laws.{IdleCellsStay}

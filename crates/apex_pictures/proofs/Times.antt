@@ -1,8 +1,8 @@
 -- The times of the entries of a run are in order.
-use Rattle.std.proofs.Common.{◌≡◌, ◌∙◌, ℕ, ◌+◌, ◌-◌, ◌<◌, ◌≤◌, List, [], ◌∷◌, ◌++◌, inl, inr, All, None, ap, arith, drop, get_or, length, length-append, map, subst, sym, take}
+use Rattle.std.proofs.Common.{◌≡◌, ◌∙◌, ℕ, ◌-◌, ◌<◌, ◌≤◌, List, [], ◌∷◌, ◌++◌, inl, inr, All, None, ap, arith, drop, length, map, subst, sym, take}
 use Rattle.std.proofs.lemmas.Bool.{cases_lt}
 use Rattle.std.proofs.lemmas.List.{get_or-map, get_or_past, length-map}
-use Rattle.std.proofs.lemmas.List.Elements.{All-drop, All-filter, All-get_or, All-map, All-nil, All-push, All-take, All-weaker}
+use Rattle.std.proofs.lemmas.List.Elements.{All-drop, All-filter, All-map, All-nil, All-push, All-take, All-weaker}
 use Rattle.std.proofs.lemmas.List.Kept.{IsNonDecreasingBy-filter}
 use Rattle.std.proofs.lemmas.List.Sorted.{IsNonDecreasingBy-drop, IsNonDecreasingBy-from_default, IsNonDecreasingBy-push, IsNonDecreasingBy-short, IsNonDecreasingBy-take}
 use Rattle.std.specs.List.{filter}

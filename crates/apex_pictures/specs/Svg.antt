@@ -1,6 +1,6 @@
 -- A picture as SVG. The places of rows and columns are the frame's; their contents are the
 -- columns'.
-use Rattle.std.specs.Prelude.{ℕ, ◌+◌, ◌-◌, ◌*◌, Bool, false, true, List, [], ◌∷◌, ◌++◌, ◌==◌, ◌&&◌, ◌||◌, nat_le, nat_lt, length, Option, None, Some, codes, count_by, decimal, flat_map, slice_index_or, take, if◌then◌else◌}
+use Rattle.std.specs.Prelude.{ℕ, ◌+◌, ◌-◌, Bool, false, true, List, [], ◌∷◌, ◌++◌, ◌==◌, ◌&&◌, ◌||◌, nat_le, nat_lt, length, Option, None, Some, codes, count_by, decimal, flat_map, slice_index_or, take, if◌then◌else◌}
 use Rattle.apex_machine.specs.text.Texts.{id_text, process_name}
 use Rattle.apex_calls.specs.Lines.{asked_text, line_of, reply_text}
 use Rattle.apex_machine.specs.text.Listing.{texts_of}
