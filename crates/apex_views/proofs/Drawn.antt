@@ -5,7 +5,7 @@ use Rattle.apex_pictures.specs.Excerpts.{cut, left_out}
 use Rattle.apex_pictures.specs.declared.Side.{Side}
 use Rattle.apex_pictures.specs.declared.Side.TheVariants.{First, Last}
 use Rattle.apex_pictures.specs.declared.Timed.{Timed}
-use Rattle.apex_pictures.specs.declared.TheConstants.{MOST_COLUMNS}
+use Rattle.apex_pictures.specs.declared.excerpts.TheConstants.{MOST_COLUMNS}
 
 none_drawn : (side : Side) (columns : List Timed) → length (cut side columns) ≡ 0 → length columns ≡ 0
 none_drawn First columns none =

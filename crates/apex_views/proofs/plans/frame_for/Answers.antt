@@ -1,10 +1,30 @@
--- The frame is that of the span, with the mark of the departure.
-use Rattle.std.proofs.Common.{◌≡◌, ◌∙◌, ap, length, subst, sym}
+-- The frame is that of the span, with the mark of the departure; nothing is drawn if no entry has a column.
+use Rattle.std.proofs.Common.{◌≡◌, ◌∙◌, None, ap, length, subst, sym, arith}
+use Rattle.std.proofs.lemmas.Bool.Decides.{nat_tests}
 use Rattle.std.specs.Prelude.{option_map}
 use Rattle.apex_pictures.specs.Axes.{HasColumns}
+use Rattle.apex_pictures.specs.Excerpts.{columns_of, drawn}
 use Rattle.apex_pictures.specs.declared.Extent.{Extent}
 use Rattle.apex_views.specs.Departures.{departure_said, extent_of}
+use Rattle.apex_views.specs.Plans.{columns_in}
+use Rattle.apex_views.proofs.Drawn.{drawn_none}
 use Rattle.apex_views.proofs.plans.frame_for.Goals as goal
+
+pub returns-then-is_empty : goal.returns-then-is_empty
+returns-then-is_empty g c =
+    let history = c.args.kernel.now.machine.history in
+    let chart = c.args.chart.now in
+    let many = length history in
+    let span = c.in-Some.span in
+    let made = c.in_ok-frame.ensures in
+    let asked = extent_of (option_map departure_said c.args.departure.now) many chart.fold span in
+    let extent_is : c.extent_of-extent.result ≡ asked =
+    c.extent_of-extent.ensures
+    ∙ ap (λ n. extent_of (option_map departure_said c.args.departure.now) n chart.fold span) (c.len-entries.ensures.value ∙ ap length c.entries.ensures) in
+    let none : length c.in_ok-frame.frame.columns.drawn.items ≡ 0 = grind (arith, nat_tests, c.is_empty.ensures, c.if-is_empty.true) in
+    let drawn_is = made.columns.drawn_is ∙ ap (λ (e : Extent). drawn e history) extent_is in
+    ap (λ s. columns_in chart.fold s history) (sym c.in-Some.ensures)
+    ∙ drawn_none asked.side (columns_of (extent_of None many chart.fold span) history) (ap length (sym drawn_is) ∙ none)
 
 pub returns : goal.returns
 returns g c =
@@ -24,7 +44,7 @@ returns g c =
       named = c.requires;
       rows = rw marked.rows made.rows;
       shows = record {
-        columns = rw marked.columns (subst (λ (e : Extent). HasColumns chart.axis e history _) extent_is made.columns);
-        mark = rw (← extent_is) (rw (c.len-entries.ensures.value, c.entries.ensures) at marked.mark);
+        columns = rw marked.columns (subst (λ (e : Extent). HasColumns chart.axis e history c.in_ok-frame.frame.columns) extent_is made.columns);
+        mark = rw (c.len-entries.ensures.value, c.entries.ensures, extent_is) at marked.mark;
       };
     }
