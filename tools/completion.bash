@@ -11,7 +11,7 @@ _apex() {
         lab:*:step | picture:*:step) words='--json' ;;
         lab:*:check | picture:*:check) words='--json --comments' ;;
         lab:*:why | picture:*:why) words='--entry --schedule --schedule-file --until --turns --early' ;;
-        lab:* | picture:*) words='--schedule --schedule-file --until --turns --early --from --to --by --only --tick-us --json' ;;
+        lab:* | picture:*) words='--schedule --schedule-file --until --turns --early --from --to --by --only --fold --tick-us --json' ;;
     esac
     case $before in
         --for) words='missed hard TIMED_OUT LOST end standstill NO_ACTION NOT_AVAILABLE INVALID_PARAM INVALID_CONFIG INVALID_MODE' ;;

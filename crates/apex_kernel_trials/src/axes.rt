@@ -53,13 +53,14 @@ fn kernel_of<R: Abort>(rt: &R, alloc: Global, text: &str) -> Kernel<QueueStore>
     booted(rt, alloc, table)
 }
 
-/// The frame of a run of these events, with its columns along this axis, and with rows for these
-/// processes, or for all.
+/// The frame of a run of these events, with its columns along this axis, with idle entries folded or
+/// not, and with rows for these processes, or for all.
 pub(crate) fn frame_of<R: Abort>(
     rt: &R,
     alloc: Global,
     text: &str,
     axis: Axis,
+    fold: bool,
     events: &[Event],
     only: Option<&[ProcessId]>,
 ) -> Frame
@@ -71,6 +72,7 @@ pub(crate) fn frame_of<R: Abort>(
         first: 1,
         last: events.len() as u32,
         side: Side::First,
+        fold,
     };
     let frame = Frame::new(alloc, &kernel, axis, extent, only);
     drop(kernel);
@@ -108,7 +110,7 @@ pub(crate) fn find_in_order<R: Abort>(rt: &R, text: &str, wanted: &[&str]) {
 #[test]
 fn by_entries_columns_stand_side_by_side(rt: HostRuntime) {
     let events = events();
-    let frame = frame_of(&rt, rt.alloc(), TABLE, Axis::Entries, &events, None);
+    let frame = frame_of(&rt, rt.alloc(), TABLE, Axis::Entries, false, &events, None);
     let picture = drawn(&rt, rt.alloc(), TABLE, frame, &events);
     let text = str::from_utf8(picture.as_slice()).expect(&rt, "a picture is text");
     find_in_order(
@@ -129,7 +131,7 @@ fn by_entries_columns_stand_side_by_side(rt: HostRuntime) {
 #[test]
 fn by_time_the_ticks_have_room(rt: HostRuntime) {
     let events = events();
-    let frame = frame_of(&rt, rt.alloc(), TABLE, Axis::Time, &events, None);
+    let frame = frame_of(&rt, rt.alloc(), TABLE, Axis::Time, false, &events, None);
     let picture = drawn(&rt, rt.alloc(), TABLE, frame, &events);
     let text = str::from_utf8(picture.as_slice()).expect(&rt, "a picture is text");
     find_in_order(

@@ -50,12 +50,12 @@ fn turns() -> [Event; 13]
 /// The picture with rows for these processes, or for all.
 fn picture_of<R: Abort>(rt: &R, alloc: Global, only: Option<&[ProcessId]>) -> Vec<u8> {
     let turns = turns();
-    let frame = frame_of(rt, alloc, TABLE, Axis::Entries, &turns, only);
+    let frame = frame_of(rt, alloc, TABLE, Axis::Entries, false, &turns, only);
     drawn(rt, alloc, TABLE, frame, &turns)
 }
 
 /// How often the text has this part.
-fn count(text: &str, part: &str) -> usize {
+pub(crate) fn count(text: &str, part: &str) -> usize {
     text.split(part).count() - 1
 }
 

@@ -43,7 +43,7 @@ pub enum LabFault {
     NoEntry(u32),
     /// A search has room for this many states, and reached more.
     StatesFull(u32),
-    /// The run has no entry in the window of a picture.
+    /// The run has no entry in the window of a picture, or none but idle ones.
     Empty(EmptyWindow),
 }
 

@@ -1,18 +1,18 @@
 -- Columns are apart, along either axis.
-use Rattle.std.proofs.Common.{◌≡◌, ◌∙◌, ℕ, ◌+◌, ◌-◌, ◌*◌, ◌/◌, ◌<◌, ◌≤◌, List, ap, arith, le_trans, length, refl, sym}
+use Rattle.std.proofs.Common.{◌≡◌, ℕ, ◌+◌, ◌-◌, ◌*◌, ◌/◌, ◌<◌, ◌≤◌, List, ap, arith, drop, le_trans, length, take}
 use Rattle.std.proofs.Math.Nat.{div-le_of_le-mul, div-mul-le_self, mul-le-mul_left}
 use Rattle.std.proofs.lemmas.Nat.{le-div}
 use Rattle.std.specs.Prelude.{max}
-use Rattle.apex_laws.proofs.Sound.{sound_run}
 use Rattle.apex_machine.specs.Machine.{opening, run}
-use Rattle.apex_machine.specs.table.Table.{Table, IsLawful}
-use Rattle.apex_pictures.specs.Axes.{idle_width, place_behind, place_of, ticks_width, time_of}
-use Rattle.apex_pictures.specs.Laws.{AreApart, ColumnsAreApart, history_of}
-use Rattle.apex_moments.specs.Terms.{Entry, Event}
+use Rattle.apex_pictures.specs.Axes.{all_ticks, idle_width, ticks_before, ticks_width, time_of}
+use Rattle.apex_pictures.specs.Excerpts.{columns_of, drawn_at, never}
+use Rattle.apex_pictures.specs.Laws.{AreApart, ColumnsAreApart}
+use Rattle.apex_pictures.specs.declared.excerpts.Timed.{Timed}
 use Rattle.apex_scales.specs.declared.Axis.{Axis}
 use Rattle.apex_scales.specs.declared.Axis.TheVariants.{Entries, Time}
-use Rattle.apex_pictures.specs.declared.axes.TheConstants.{COLUMN, MOST_ROOM, TICK}
-use Rattle.apex_pictures.proofs.Times.{time_rises}
+use Rattle.apex_pictures.specs.declared.axes.TheConstants.{MOST_ROOM, TICK}
+use Rattle.apex_pictures.proofs.Numbers.{columns_follow, numbered_after}
+use Rattle.apex_pictures.proofs.Times.{AreInOrder, columns_in_order, timed_after}
 
 div_rises : (a b c : ℕ) → 0 < c → a ≤ b → a / c ≤ b / c
 div_rises a b c some order = le-div (a / c) b c some (le_trans (div-mul-le_self a c) order)
@@ -47,43 +47,38 @@ width_within Time all ticks within = omega (arith, share_within all ticks within
 width_whole : (all ticks : ℕ) → TICK * all ≤ MOST_ROOM → ticks_width all ticks ≡ TICK * ticks
 width_whole all ticks room = omega (arith, share_whole all ticks room)
 
--- the ticks from the first entry to this one, and to the last one
-abbrev since : List Entry → ℕ → ℕ → ℕ
-since history first m = time_of history m - time_of history first
-
-places_apart : (axis : Axis) (history : List Entry) (first last n : ℕ) → first ≤ n → time_of history first ≤ time_of history n
-    → time_of history n ≤ time_of history (n + 1) → time_of history n ≤ time_of history last → AreApart axis history first last n
-places_apart axis history first last n from begun forward within =
-    let all = since history first last in
-    let here = since history first n in
-    let next = since history first (n + 1) in
+places_apart : (axis : Axis) (entries : List Timed) (n : ℕ) → (drawn_at entries n).number < (drawn_at entries (n + 1)).number
+    → time_of entries 0 ≤ time_of entries n → time_of entries n ≤ time_of entries (n + 1)
+    → time_of entries n ≤ time_of entries (length entries - 1) → AreApart axis entries n
+places_apart axis entries n follows begun forward within =
+    let all = all_ticks entries in
+    let here = ticks_before entries n in
+    let next = ticks_before entries (n + 1) in
     record {
-      apart = omega (arith, from, width_rises axis all here next (omega (arith, forward)));
+      follows = follows;
+      apart = omega (arith, width_rises axis all here next (omega (arith, forward)));
       beside = λ same.
-          let width = ap (λ (t : ℕ). idle_width axis all (t - time_of history first)) same in
-          omega (arith, from, width);
+          let width = ap (λ (t : ℕ). idle_width axis all (t - time_of entries 0)) same in
+          omega (arith, width);
       within = omega (arith, width_within axis all here (omega (arith, within)));
       wider = λ by_time room.
           let so_far : idle_width axis all here ≡ TICK * here = rw by_time (width_whole all here room) in
           let further : idle_width axis all next ≡ TICK * next = rw by_time (width_whole all next room) in
-          omega (arith, from, begun, forward, so_far, further);
+          omega (arith, begun, forward, so_far, further);
     }
 
-pub columns_apart : ColumnsAreApart
-columns_apart axis table lawful events first last n from before within =
-    let machine = run table (opening table) events in
-    let again = (sound_run table lawful events).replays in
-    let rises = time_rises table lawful machine again in
-    places_apart axis machine.history first last n from (rises first n from (omega (arith, before, within)))
-    (rises n (n + 1) (omega arith) (omega (arith, before, within)))
-    (rises n last (omega (arith, before)) within)
+-- the time of one of some entries is no later than that of one behind it
+pub rises_to : (entries : List Timed) (now m n : ℕ) → AreInOrder entries now → m ≤ n → n < length entries
+    → time_of entries m ≤ time_of entries n
+rises_to entries now m n is order within = is.rises m n never order within
 
--- the place behind other columns, by the ticks before it
-pub place_is : (axis : Axis) (history : List Entry) (first last others all ticks place : ℕ)
-    → all ≡ time_of history last - time_of history first
-    → ticks ≡ time_of history (first + others) - time_of history first
-    → place ≡ COLUMN * others + idle_width axis all ticks → place ≡ place_behind axis history first last others
-place_is axis history first last others all ticks place until before is =
-    let behind : others ≡ first + others - first = omega arith in
-    (rw (until, before) at is)
-    ∙ ap (λ (n : ℕ). COLUMN * n + idle_width axis (since history first last) (since history first (first + others))) behind
+pub columns_apart : ColumnsAreApart
+columns_apart axis table lawful events extent others many n within =
+    let machine = run table (opening table) events in
+    let entries = take many (drop others (columns_of extent machine.history)) in
+    let now = machine.roster.now in
+    let is = columns_in_order extent others many machine.history now (timed_after table lawful events) in
+    places_apart axis entries n (columns_follow extent others many n machine.history (numbered_after table events) within)
+    (rises_to entries now 0 n is (omega arith) (omega (arith, within)))
+    (rises_to entries now n (n + 1) is (omega arith) within)
+    (rises_to entries now n (length entries - 1) is (omega (arith, within)) (omega (arith, within)))

@@ -1,3 +1,6 @@
 pub mod Said
 pub mod Times
 pub mod Apart
+pub mod Joined
+pub mod Numbers
+pub mod Idle

@@ -1,72 +1,46 @@
 -- The times of the entries of a run are in order.
-use Rattle.std.proofs.Common.{◌≡◌, ◌∙◌, ℕ, zero, suc, ◌+◌, ◌-◌, ◌<◌, ◌≤◌, List, [], ◌∷◌, ◌++◌, inl, inr, ap, arith, get_or, length, map, length-append, refl, subst, sym}
-use Rattle.std.proofs.Math.Seq.{get_or-append_seam}
+use Rattle.std.proofs.Common.{◌≡◌, ◌∙◌, ℕ, ◌-◌, ◌<◌, ◌≤◌, List, [], ◌∷◌, ◌++◌, inl, inr, All, None, ap, arith, drop, length, map, subst, sym, take}
 use Rattle.std.proofs.lemmas.Bool.{cases_lt}
-use Rattle.std.proofs.lemmas.List.{get_or-map, get_or_append_left, get_or_past, length-map, map-append}
-use Rattle.std.specs.Prelude.{Some, slice_get}
+use Rattle.std.proofs.lemmas.List.{get_or-map, get_or_past, length-map}
+use Rattle.std.proofs.lemmas.List.Elements.{All-drop, All-filter, All-map, All-nil, All-push, All-take, All-weaker}
+use Rattle.std.proofs.lemmas.List.Kept.{IsNonDecreasingBy-filter}
+use Rattle.std.proofs.lemmas.List.Sorted.{IsNonDecreasingBy-drop, IsNonDecreasingBy-from_default, IsNonDecreasingBy-push, IsNonDecreasingBy-short, IsNonDecreasingBy-take}
+use Rattle.std.specs.List.{filter}
+use Rattle.std.specs.List.Sorted.{IsNonDecreasingBy}
 use Rattle.apex_machine.specs.Machine.{Machine, accept, events_of, opening, replay, run}
 use Rattle.apex_machine.specs.table.Table.{Table, IsLawful}
+use Rattle.apex_types.specs.declared.entries.Caller.TheVariants.{Nobody}
+use Rattle.apex_types.specs.declared.entries.Reply.TheVariants.{Idle}
+use Rattle.apex_types.specs.declared.entries.Who.TheVariants.{Ticker}
 use Rattle.apex_laws.proofs.Runs.{accept-full, accept-room}
 use Rattle.apex_laws.proofs.Sound.{IsSound, forward_after, sound_accept, sound_opening}
 use Rattle.apex_pictures.specs.Axes.{time_of}
+use Rattle.apex_pictures.specs.Excerpts.{columns_of, drawn, has_column, left_out, never, timed}
+use Rattle.apex_pictures.specs.declared.excerpts.Extent.{Extent}
+use Rattle.apex_pictures.specs.declared.excerpts.Timed.{Timed}
+use Rattle.apex_pictures.specs.declared.excerpts.TheConstants.{MOST_COLUMNS}
 use Rattle.apex_moments.specs.Terms.{Entry, Event}
 use Rattle.apex_moments.proofs.Pictured.{event_timed}
 
--- the time of the entry at a place
-abbrev pub time_at : List Entry → ℕ → ℕ
-time_at history place = get_or (map (λ entry. entry.now) history) place 0
-
-time_kept : (done : List Entry) (entry : Entry) (i : ℕ) → i < length done → time_at (done ++ entry ∷ []) i ≡ time_at done i
-time_kept done entry i within =
-    ap (λ (times : List ℕ). get_or times i 0) (map-append (λ (e : Entry). e.now) done (entry ∷ []))
-    ∙ get_or_append_left (map (λ (e : Entry). e.now) done) (entry.now ∷ []) 0 i (omega (arith, within, length-map done (λ (e : Entry). e.now)))
-
-time_last : (done : List Entry) (entry : Entry) (i : ℕ) → i ≡ length done → time_at (done ++ entry ∷ []) i ≡ entry.now
-time_last done entry i last =
-    let times = map (λ (e : Entry). e.now) done in
-    let here : get_or (times ++ entry.now ∷ []) (length times) 0 ≡ entry.now = get_or-append_seam times entry.now [] 0 in
-    ap (λ (l : List ℕ). get_or l i 0) (map-append (λ (e : Entry). e.now) done (entry ∷ []))
-    ∙ ap (λ (k : ℕ). get_or (times ++ entry.now ∷ []) k 0) (last ∙ sym (length-map done (λ (e : Entry). e.now))) ∙ here
-
-time_past : (history : List Entry) (i : ℕ) → length history ≤ i → time_at history i ≡ 0
-time_past history i past =
-    get_or_past (map (λ (e : Entry). e.now) history) i 0 (omega (arith, past, length-map history (λ (e : Entry). e.now)))
-
 -- the times of a history are in order, and none is later than now
 pub record AreTimed (history : List Entry) (now : ℕ) : Type 0 where
-  pub before : (i : ℕ) → time_at history i ≤ now
-  pub rises : (i j : ℕ) → i ≤ j → j < length history → time_at history i ≤ time_at history j
+  pub before : All (λ entry. entry.now ≤ now) history
+  pub rises : IsNonDecreasingBy (λ entry. entry.now) history
 
 timed_none : (now : ℕ) → AreTimed [] now
 timed_none now = record {
-  before = λ i. omega (arith, time_past [] i (omega arith));
-  rises = λ i j order within. absurd (omega (arith, within));
+  before = All-nil (λ (entry : Entry). entry.now ≤ now);
+  rises = IsNonDecreasingBy-short (λ (entry : Entry). entry.now) [] (omega arith);
 }
-
-before_push : (done : List Entry) (entry : Entry) (now new : ℕ) → AreTimed done now → now ≤ new → new ≡ entry.now
-    → (i : ℕ) → time_at (done ++ entry ∷ []) i ≤ new
-before_push done entry now new timed forward is i =
-    let many : length (done ++ entry ∷ []) ≡ length done + 1 = length-append done (entry ∷ []) in
-    elim (cases_lt i (length done)) [
-      | inl old ↦ omega (arith, timed.before i, forward, time_kept done entry i old)
-      | inr past ↦ elim (cases_lt i (length done + 1)) [
-        | inl last ↦ omega (arith, is, time_last done entry i (omega (arith, last, past)))
-        | inr beyond ↦ omega (arith, time_past (done ++ entry ∷ []) i (omega (arith, many, beyond)))
-      ]
-    ]
 
 timed_push : (done : List Entry) (entry : Entry) (now new : ℕ) → AreTimed done now → now ≤ new → new ≡ entry.now
     → AreTimed (done ++ entry ∷ []) new
 timed_push done entry now new timed forward is = record {
-  before = before_push done entry now new timed forward is;
-  rises = λ i j order within.
-      let many : length (done ++ entry ∷ []) ≡ length done + 1 = length-append done (entry ∷ []) in
-      elim (cases_lt j (length done)) [
-        | inl old ↦
-            omega (arith, timed.rises i j order old, time_kept done entry i (omega (arith, order, old)), time_kept done entry j old)
-        | inr past ↦
-            omega (arith, before_push done entry now new timed forward is i, is, time_last done entry j (omega (arith, within, many, past)))
-      ];
+  before = All-push (λ (e : Entry). e.now ≤ new) done entry
+      (All-weaker (λ (e : Entry). e.now ≤ now) (λ (e : Entry). e.now ≤ new) (λ e old. omega (arith, old, forward)) done timed.before)
+      (omega (arith, is));
+  rises = IsNonDecreasingBy-push (λ (e : Entry). e.now) done entry timed.rises
+      (λ d some. omega (arith, timed.before (length done - 1) d (omega (arith, some)), forward, is));
 }
 
 abbrev pub IsOrdered : Machine → Type 0
@@ -100,28 +74,52 @@ timed_after table lawful events =
 timed_replay : (table : Table) → IsLawful table → (machine : Machine) → replay table machine.history ≡ machine → IsOrdered machine
 timed_replay table lawful machine again = subst IsOrdered again (timed_after table lawful (events_of machine.history))
 
--- no entry is later than now
-pub time_before : (table : Table) → IsLawful table → (machine : Machine) → replay table machine.history ≡ machine
-    → (n : ℕ) → time_of machine.history n ≤ machine.roster.now
-time_before table lawful machine again n = (timed_replay table lawful machine again).before (n - 1)
+-- the entry of no event
+pub nothing : Entry
+nothing = record { number = 0; now = 0; who = Ticker; process = Nobody; call = None; reply = Idle; notices = [] }
 
--- no entry is later than one behind it
-pub time_rises : (table : Table) → IsLawful table → (machine : Machine) → replay table machine.history ≡ machine
-    → (m n : ℕ) → m ≤ n → n ≤ length machine.history → time_of machine.history m ≤ time_of machine.history n
-time_rises table lawful machine again m n order within = elim (cases_lt (n - 1) (length machine.history)) [
-  | inl inside ↦ (timed_replay table lawful machine again).rises (m - 1) (n - 1) (omega (arith, order)) inside
-  | inr none ↦ omega (arith, time_past machine.history (m - 1) (omega (arith, none, order, within)), time_past machine.history (n - 1) none)
+-- the times of some entries are in order if the entries are
+rises_alone : (entries : List Entry) → IsNonDecreasingBy (λ entry. entry.now) entries
+    → IsNonDecreasingBy (λ entry. entry.now) (map timed entries)
+rises_alone entries rises =
+    IsNonDecreasingBy-from_default (λ (e : Timed). e.now) (map timed entries) never
+    (λ i j order within.
+    let inside : j < length entries = omega (arith, within, length-map entries timed) in
+    omega (
+      arith,
+      rises i j nothing order inside,
+      ap (λ (e : Timed). e.now) (get_or-map timed entries i nothing never (omega (arith, order, inside))),
+      ap (λ (e : Timed). e.now) (get_or-map timed entries j nothing never inside),
+    ))
+
+-- the times of entries that have a column are in order, and none is later than now
+pub record AreInOrder (entries : List Timed) (now : ℕ) : Type 0 where
+  pub before : All (λ entry. entry.now ≤ now) entries
+  pub rises : IsNonDecreasingBy (λ entry. entry.now) entries
+
+pub columns_in_order : (extent : Extent) (others many : ℕ) (history : List Entry) (now : ℕ) → AreTimed history now
+    → AreInOrder (take many (drop others (columns_of extent history))) now
+columns_in_order extent others many history now is =
+    let columns = filter (has_column extent) history in
+    record {
+      before = All-take (λ (e : Timed). e.now ≤ now) many (drop others (map timed columns))
+          (All-drop (λ (e : Timed). e.now ≤ now) others (map timed columns)
+          (All-map (λ (e : Timed). e.now ≤ now) timed columns (All-filter (has_column extent) (λ (e : Entry). e.now ≤ now) history is.before)));
+      rises = IsNonDecreasingBy-take (λ (e : Timed). e.now) many (drop others (map timed columns))
+          (IsNonDecreasingBy-drop (λ (e : Timed). e.now) others (map timed columns)
+          (rises_alone columns (IsNonDecreasingBy-filter (λ (e : Entry). e.now) (has_column extent) history is.rises)));
+    }
+
+-- so are those that are drawn
+pub drawn_in_order : (table : Table) → IsLawful table → (machine : Machine) → replay table machine.history ≡ machine
+    → (extent : Extent) → AreInOrder (drawn extent machine.history) machine.roster.now
+drawn_in_order table lawful machine again extent =
+    columns_in_order extent (left_out extent.side (length (columns_of extent machine.history))) MOST_COLUMNS
+    machine.history machine.roster.now (timed_replay table lawful machine again)
+
+-- no entry that has a column is later than now
+pub last_before : (entries : List Timed) (now n : ℕ) → AreInOrder entries now → time_of entries n ≤ now
+last_before entries now n is = elim (cases_lt n (length entries)) [
+  | inl inside ↦ is.before n never inside
+  | inr past ↦ omega (arith, ap (λ (e : Timed). e.now) (get_or_past entries n never past))
 ]
-
--- the time of the entry that is found at a place
-pub time_found : (history : List Entry) (place : ℕ) (entry : Entry) → slice_get history place ≡ Some entry
-    → time_at history place ≡ entry.now
-time_found [] place entry found = search
-time_found (e ∷ history) zero entry found = search
-time_found (e ∷ history) (suc place) entry found = time_found history place entry found
-
--- an entry that is found is not later than now
-pub found_before : (table : Table) → IsLawful table → (machine : Machine) → replay table machine.history ≡ machine
-    → (place : ℕ) (entry : Entry) → slice_get machine.history place ≡ Some entry → entry.now ≤ machine.roster.now
-found_before table lawful machine again place entry found =
-    omega (arith, (timed_replay table lawful machine again).before place, time_found machine.history place entry found)

@@ -1,6 +1,6 @@
 -- A picture as SVG. The places of rows and columns are the frame's; their contents are the
 -- columns'.
-use Rattle.std.specs.Prelude.{ℕ, ◌+◌, ◌-◌, ◌*◌, Bool, false, true, List, [], ◌∷◌, ◌++◌, ◌==◌, ◌&&◌, ◌||◌, nat_le, nat_lt, length, Option, None, Some, codes, decimal, flat_map, slice_index_or, take, if◌then◌else◌}
+use Rattle.std.specs.Prelude.{ℕ, ◌+◌, ◌-◌, Bool, false, true, List, [], ◌∷◌, ◌++◌, ◌==◌, ◌&&◌, ◌||◌, nat_le, nat_lt, length, Option, None, Some, codes, count_by, decimal, flat_map, slice_index_or, take, if◌then◌else◌}
 use Rattle.apex_machine.specs.text.Texts.{id_text, process_name}
 use Rattle.apex_calls.specs.Lines.{asked_text, line_of, reply_text}
 use Rattle.apex_machine.specs.text.Listing.{texts_of}
@@ -10,13 +10,15 @@ use Rattle.apex_types.specs.declared.entries.Caller.TheVariants.{Process, Init, 
 use Rattle.apex_types.specs.declared.entries.Who.TheVariants.{Ticker}
 use Rattle.apex_machine.specs.declared.holdings.Holding.{Holding}
 use Rattle.apex_types.specs.declared.entries.Notice.TheVariants.{Woken, Released, Missed}
-use Rattle.apex_types.specs.declared.entries.Reply.TheVariants.{Advanced}
 use Rattle.apex_moments.specs.Moments.{Shown, no_cell}
+use Rattle.apex_pictures.specs.Axes.{time_of}
+use Rattle.apex_pictures.specs.Excerpts.{first_number, is_unfolded, last_number}
 use Rattle.apex_pictures.specs.Rows.{selection_of}
-use Rattle.apex_moments.specs.Terms.{Caller, Entry, Notice, Reply, Wait}
+use Rattle.apex_moments.specs.Terms.{Caller, Entry, Notice, Wait}
 use Rattle.apex_moments.specs.declared.moments.Cell.{Cell}
 use Rattle.apex_moments.specs.Texts.{texts, xml_text}
 use Rattle.apex_moments.specs.Words.{notice_word}
+use Rattle.apex_pictures.specs.declared.columns.Columns.{Columns}
 use Rattle.apex_pictures.specs.declared.excerpts.Excerpt.{Excerpt}
 use Rattle.apex_pictures.specs.declared.frames.Frame.{Frame}
 use Rattle.apex_pictures.specs.declared.marks.Mark.{Mark}
@@ -28,17 +30,24 @@ abbrev pub row_of : Frame → ℕ → ℕ
 row_of frame p = slice_index_or frame.rows.places.items p 0
 
 -- the place of the column behind n others, from the first column
-abbrev pub column_at : Frame → ℕ → ℕ
-column_at frame n = slice_index_or frame.places.items n frame.behind
+abbrev pub column_at : Columns → ℕ → ℕ
+column_at columns n = slice_index_or columns.places.items n columns.behind
+
+-- how many columns are before that of the entry of this number
+abbrev pub column_before : Columns → ℕ → ℕ
+column_before columns number =
+    count_by (λ other. nat_lt other.number number) columns.drawn.items
 
 -- the place of the column of the entry of this number
 abbrev pub column_place : Frame → ℕ → ℕ
-column_place frame number = frame.left + column_at frame (number - frame.first)
+column_place frame number =
+    frame.left + column_at frame.columns (column_before frame.columns number)
 
 -- the width of the column of the entry of this number, up to the next one
 abbrev pub column_width : Frame → ℕ → ℕ
 column_width frame number =
-    column_at frame (number - frame.first + 1) - column_at frame (number - frame.first)
+    column_at frame.columns (column_before frame.columns number + 1)
+    - column_at frame.columns (column_before frame.columns number)
 
 -- the place of the heading of a core
 abbrev pub heading_of : Frame → ℕ → ℕ
@@ -48,9 +57,13 @@ heading_of frame core = slice_index_or frame.rows.headings.items core 0
 abbrev pub has_row : Frame → ℕ → Bool
 has_row frame p = slice_index_or frame.rows.chosen.items p false
 
--- the entry of this number is drawn
-abbrev pub shows : Frame → ℕ → Bool
-shows frame number = nat_le frame.first number && nat_le number frame.last
+-- an entry has a column that is drawn: it is not before the first one, not behind the last one, and not
+-- folded
+abbrev pub shows : Columns → Entry → Bool
+shows columns entry =
+    (nat_le (first_number columns.drawn.items) entry.number
+    && nat_le entry.number (last_number columns.drawn.items))
+    && is_unfolded columns.fold entry
 
 -- what comes before the columns
 unfoldable pub head_text : Frame → List ℕ
@@ -75,14 +88,12 @@ label_text table frame p = texts (
 abbrev pub label_at : Table → Frame → ℕ → List ℕ
 label_at table frame p = if has_row frame p then label_text table frame p else []
 
--- time goes on with a reply
-abbrev pub goes_on : Reply → Bool
-goes_on (Advanced asked went) = nat_lt 0 went
-goes_on reply = false
-
--- a column has its instant below it: time goes on with its entry, or it is the first that is drawn
-abbrev pub is_timed : Frame → Entry → Bool
-is_timed frame entry = goes_on entry.reply || entry.number == frame.first
+-- a column has its instant below it: it is the first one, or its entry is later than that of the column
+-- before it
+abbrev pub is_begun : Columns → Entry → Bool
+is_begun columns entry =
+    let before = column_before columns entry.number in
+    before == 0 || nat_lt (time_of columns.drawn.items (before - 1)) entry.now
 
 -- the line and the text of an instant
 unfoldable pub instant_text : Frame → ℕ → List ℕ
@@ -94,7 +105,8 @@ instant_text frame now = texts (
 
 -- the instant of an entry, if it is shown
 abbrev pub time_text : Frame → Entry → List ℕ
-time_text frame entry = if is_timed frame entry then instant_text frame entry.now else []
+time_text frame entry =
+    if is_begun frame.columns entry then instant_text frame entry.now else []
 
 -- an entry without a caller, with this call and this reply
 abbrev pub bare : Entry → Entry
@@ -283,13 +295,13 @@ start_text frame number = texts (
 -- the column of an entry, if the frame shows it
 abbrev pub column_text : Table → Frame → Entry → Shown → List ℕ
 column_text table frame entry shown =
-    if shows frame entry.number then
+    if shows frame.columns entry then
     start_text frame entry.number ++ marks_text table frame entry shown ++ column_end
     else []
 
 -- the place behind the last column
 abbrev pub behind : Frame → ℕ
-behind frame = frame.left + frame.behind
+behind frame = frame.left + frame.columns.behind
 
 -- the mark of a departure behind the last column: a line, the line that the machine expects, and the
 -- line that was given
@@ -348,5 +360,5 @@ abbrev pub foot_text : Table → Frame → List ℕ
 foot_text table frame =
     mark_part frame frame.mark ++ white_text frame ++ texts_of (heading_text frame) table.cores
     ++ texts_of (label_at table frame) (length table.processes)
-    ++ key_text frame ++ note_text frame.excerpt
+    ++ key_text frame ++ note_text frame.columns.excerpt
     ++ selection_part (selection_of frame.rows.chosen.items) ++ frame.end.now

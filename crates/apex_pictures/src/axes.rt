@@ -1,14 +1,12 @@
 //! The axis of a picture, and the places of its columns along it.
-ghost use Rattle.std.specs.Prelude.{◌≡◌, ◌+◌, ◌*◌, ◌<◌, ◌≤◌, IfOk, length};
+ghost use Rattle.std.specs.Prelude.{◌≡◌, ◌+◌, ◌-◌, ◌*◌, ◌<◌, ◌≤◌, IfOk, length};
+ghost use Rattle.std.specs.List.Sorted.{IsNonDecreasingBy};
 ghost use Rattle.apex_types.specs.Limits.{latest};
-ghost use Rattle.apex_pictures.specs.Axes.{behind_of, idle_width, last_column, places_of, ticks_width, time_of};
-ghost use Rattle.apex_pictures.specs.Excerpts.{first_drawn};
+ghost use Rattle.apex_pictures.specs.Axes.{behind_of, idle_width, places_of, ticks_before, ticks_width, time_of};
 ghost use Rattle.apex_pictures.specs.declared.excerpts.TheConstants.{MOST_COLUMNS};
 
-use crate::excerpts::Extent;
-use apex_dispatch::Kernel;
+use crate::excerpts::Timed;
 use apex_scales::Axis;
-use apex_store::Store;
 use std::alloc::{AllocError, Global};
 
 /// The least distance from one column to the next, in pixels.
@@ -44,27 +42,21 @@ fn idle_width(axis: Axis, all: u64, ticks: u64) -> u32
     }
 }
 
-/// The time of the entry of this number in a kernel's history, in ticks; 0 if there is no such entry.
-fn time_of<S: Store>(kernel: &Kernel<S>, number: u32) -> u64
-    ensures value { result ≡ time_of kernel.now.machine.history number }
-    ensures range { result ≤ latest }
+/// The time of the entry behind `before` others of these, in ticks; 0 if there is no such entry.
+pub(crate) fn time_of(entries: &[Timed], before: usize) -> u64
+    ensures { result ≡ time_of entries.now before }
 {
-    kernel.holds();
-    let place = number.saturating_sub(1) as usize;
-    if place < kernel.entries().len() {
-        kernel.entry(place).now
-    } else {
-        0
+    match entries.get(before) {
+        Some(entry) => entry.now,
+        None => 0,
     }
 }
 
-/// The number of the last entry of a kernel's history that has a column, of an extent.
-pub(crate) fn last_column<S: Store>(kernel: &Kernel<S>, extent: Extent) -> u32
-    ensures value { result ≡ last_column extent (length kernel.now.machine.history) }
-    ensures within { result ≤ length kernel.now.machine.history }
-    ensures many { result < first_drawn extent + MOST_COLUMNS }
+/// The ticks from the first of these entries to the one behind `before` others.
+fn ticks_before(entries: &[Timed], before: usize) -> u64
+    ensures { result ≡ ticks_before entries.now before }
 {
-    kernel.entries().len().min(extent.last_drawn() as usize) as u32
+    time_of(entries, before).saturating_sub(time_of(entries, 0))
 }
 
 /// The place of the column behind this many others, before which there are these ticks, out of `all`.
@@ -78,36 +70,34 @@ fn place_at(axis: Axis, columns: u32, all: u64, ticks: u64) -> u32
     COLUMN * columns + idle_width(axis, all, ticks)
 }
 
-/// The places of the columns of a kernel's entries from the first to the last.
-pub(crate) fn places_of<S: Store>(
+/// The places of the columns of these entries, none of which is later than one behind it.
+pub(crate) fn places_of(
     alloc: Global,
-    kernel: &Kernel<S>,
     axis: Axis,
-    first: u32,
-    last: u32,
+    entries: &[Timed],
 ) -> Result<Vec<u32>, AllocError>
-    requires within { last ≤ length kernel.now.machine.history }
-    requires few { last < first + MOST_COLUMNS }
-    ensures { IfOk result (λ places. places.items
-        ≡ places_of axis kernel.now.machine.history first last) }
+    requires few { length entries.now ≤ MOST_COLUMNS }
+    requires rises { IsNonDecreasingBy (λ entry. entry.now) entries.now }
+    requires range { time_of entries.now (length entries.now - 1) ≤ latest }
+    ensures { IfOk result (λ places. places.items ≡ places_of axis entries.now) }
 {
-    kernel.holds();
-    let since = time_of(kernel, first);
-    let all = time_of(kernel, last).saturating_sub(since);
+    let all = ticks_before(entries, entries.len().saturating_sub(1));
     let mut places = Vec::new(alloc);
-    for column in 0..(last + 1).saturating_sub(first) {
-        let ticks = time_of(kernel, first + column).saturating_sub(since);
-        places.push(place_at(axis, column, all, ticks))?;
+    for before in 0..entries.len() {
+        let ticks = ticks_before(entries, before);
+        places.push(place_at(axis, before as u32, all, ticks))?;
     }
     Ok(places)
 }
 
-/// The place behind the last column of a kernel's entries from the first to the last.
-pub(crate) fn behind_of<S: Store>(kernel: &Kernel<S>, axis: Axis, first: u32, last: u32) -> u32
-    requires { last < first + MOST_COLUMNS }
-    ensures value { result ≡ behind_of axis kernel.now.machine.history first last }
+/// The place behind the last column of these entries.
+pub(crate) fn behind_of(axis: Axis, entries: &[Timed]) -> u32
+    requires few { length entries.now ≤ MOST_COLUMNS }
+    requires range { time_of entries.now (length entries.now - 1) ≤ latest }
+    ensures value { result ≡ behind_of axis entries.now }
     ensures range { result ≤ 200000 }
 {
-    let all = time_of(kernel, last).saturating_sub(time_of(kernel, first));
-    place_at(axis, last.saturating_sub(first), all, all) + COLUMN
+    let last = entries.len().saturating_sub(1);
+    let all = ticks_before(entries, last);
+    place_at(axis, last as u32, all, all) + COLUMN
 }

@@ -238,7 +238,7 @@ pub fn put_foot(text: &mut Vec<u8>, table: &Table, frame: &Frame) -> Result<(), 
     put_headings(text, table, frame)?;
     put_labels(text, table, frame)?;
     put_key(text, frame)?;
-    put_note(text, &frame.excerpt)?;
+    put_note(text, &frame.columns.excerpt)?;
     put_selection_part(text, frame)?;
     put(text, frame.end)
 }

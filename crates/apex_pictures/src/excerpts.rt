@@ -1,17 +1,19 @@
 //! What a picture shows of the entries that it is asked to show.
-ghost use Rattle.std.specs.Prelude.{◌≡◌, ◌+◌, ◌<◌};
-ghost use Rattle.apex_pictures.specs.Excerpts.{begins_at, excerpt_of, first_drawn, fits, last_drawn};
+ghost use Rattle.std.specs.Prelude.{◌≡◌, ◌≤◌, length};
+ghost use Rattle.apex_pictures.specs.Excerpts.{cut, excerpt_in, first_number, has_column, is_idle, is_unfolded, last_number, left_out, timed};
 ghost use Rattle.apex_pictures.specs.declared.excerpts.TheConstants.{MOST_COLUMNS};
 
-/// The most entries that are drawn as SVG.
+use apex_types::LentEntry;
+
+/// The most columns that are drawn as SVG.
 pub const MOST_COLUMNS: u32 = 2_000;
 
-/// The side of an extent on which entries are drawn, if it has more than [`MOST_COLUMNS`].
+/// The side of an extent on which columns are drawn, if it has more than [`MOST_COLUMNS`].
 #[derive(Clone, Copy, Debug, PartialEq, Eq)]
 pub enum Side {
-    /// The first entries are drawn.
+    /// The first columns are drawn.
     First,
-    /// The last entries are drawn.
+    /// The last columns are drawn.
     Last,
 }
 
@@ -22,14 +24,16 @@ pub struct Extent {
     pub first: u32,
     /// The number of the last one.
     pub last: u32,
-    /// The side on which entries are drawn, if they are too many.
+    /// The side on which columns are drawn, if they are too many.
     pub side: Side,
+    /// Whether idle entries are folded: they have no column.
+    pub fold: bool,
 }
 
 /// The entries of a run that a picture shows, of which more were asked for.
 #[derive(Clone, Copy)]
 pub struct Excerpt {
-    /// The number of the first entry that is drawn.
+    /// The number of the first entry that has a column.
     pub first: u32,
     /// The number of the last one.
     pub last: u32,
@@ -37,44 +41,104 @@ pub struct Excerpt {
     pub entries: usize,
 }
 
-impl Extent {
-    /// The number of the first entry that is drawn.
-    pub(crate) fn first_drawn(self) -> u32
-        ensures { result ≡ first_drawn self }
+/// An entry that has a column.
+#[derive(Clone, Copy)]
+pub struct Timed {
+    pub number: u32,
+    /// In ticks.
+    pub now: u64,
+}
+
+/// Whether the entry is an idle turn, or a tick at which nothing happens.
+fn is_idle(entry: &LentEntry<'_>) -> bool
+    ensures { result ≡ is_idle entry.entry.now }
+{
+    entry.call.is_none() && entry.notices.is_empty()
+}
+
+/// Whether the entry is not folded.
+pub(crate) fn is_unfolded(fold: bool, entry: &LentEntry<'_>) -> bool
+    ensures { result ≡ is_unfolded fold entry.entry.now }
+{
+    !(fold && is_idle(entry))
+}
+
+impl Timed {
+    /// The number and the time of an entry.
+    pub(crate) fn of(entry: &LentEntry<'_>) -> Timed
+        ensures { result ≡ timed entry.entry.now }
     {
-        match self.side {
-            Side::First => self.first,
-            Side::Last => self.first.max(self.last.saturating_sub(MOST_COLUMNS - 1)),
+        Timed {
+            number: entry.number,
+            now: entry.now,
+        }
+    }
+}
+
+impl Extent {
+    /// Whether the entry has a column, if there is room for all of them.
+    pub(crate) fn has_column(self, entry: &LentEntry<'_>) -> bool
+        ensures { result ≡ has_column self entry.entry.now }
+    {
+        let within = self.first <= entry.number && entry.number <= self.last;
+        within && is_unfolded(self.fold, entry)
+    }
+}
+
+impl Side {
+    /// How many of these columns come before those that are drawn.
+    fn left_out(self, columns: usize) -> usize
+        ensures value { result ≡ left_out self columns }
+        ensures within { result ≤ columns }
+    {
+        match self {
+            Side::First => 0,
+            Side::Last => columns.saturating_sub(MOST_COLUMNS as usize),
         }
     }
 
-    /// The number of the last entry that is drawn.
-    pub(crate) fn last_drawn(self) -> u32
-        ensures value { result ≡ last_drawn self }
-        ensures many { result < first_drawn self + MOST_COLUMNS }
+    /// Those of these columns that are drawn, [`MOST_COLUMNS`] at the most.
+    pub(crate) fn cut(self, columns: &[Timed]) -> &[Timed]
+        ensures value { result.now ≡ cut self columns.now }
+        ensures few { length result.now ≤ MOST_COLUMNS }
     {
-        let most = self.first_drawn().saturating_add(MOST_COLUMNS - 1);
-        self.last.min(most)
+        let (_, behind) = columns.split_at(self.left_out(columns.len()));
+        let (drawn, _) = behind.split_at((MOST_COLUMNS as usize).min(behind.len()));
+        drawn
     }
 
-    /// Whether all entries are drawn.
-    fn fits(self) -> bool
-        ensures { result ≡ fits self }
+    /// What is drawn of these columns, in a run of `entries` entries. None if all of them are.
+    pub(crate) fn excerpt(self, columns: &[Timed], entries: usize) -> Option<Excerpt>
+        ensures { result ≡ excerpt_in self columns.now entries }
     {
-        self.last <= self.first.saturating_add(MOST_COLUMNS - 1)
-    }
-
-    /// The entries that are drawn, in a run of `entries`. None if all of them are.
-    pub(crate) fn excerpt(self, entries: usize) -> Option<Excerpt>
-        ensures { result ≡ excerpt_of self entries }
-    {
-        if self.fits() {
+        if columns.len() <= MOST_COLUMNS as usize {
             return None;
         }
+        let drawn = self.cut(columns);
         Some(Excerpt {
-            first: self.first_drawn(),
-            last: self.last_drawn(),
+            first: first_number(drawn),
+            last: last_number(drawn),
             entries,
         })
+    }
+}
+
+/// The number of the first of these entries; 0 if there is none.
+pub(crate) fn first_number(entries: &[Timed]) -> u32
+    ensures { result ≡ first_number entries.now }
+{
+    match entries.first() {
+        Some(entry) => entry.number,
+        None => 0,
+    }
+}
+
+/// The number of the last of these entries; 0 if there is none.
+pub(crate) fn last_number(entries: &[Timed]) -> u32
+    ensures { result ≡ last_number entries.now }
+{
+    match entries.last() {
+        Some(entry) => entry.number,
+        None => 0,
     }
 }

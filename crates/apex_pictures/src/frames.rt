@@ -1,12 +1,11 @@
 //! The places of the columns and of the rows of a picture.
 ghost use Rattle.std.specs.Prelude.{◌≡◌, ◌<◌, ◌≤◌, ◌^◌, IfOk, length, option_map, None, Some};
-ghost use Rattle.apex_pictures.specs.Axes.{behind_of, last_column, places_of};
-ghost use Rattle.apex_pictures.specs.Excerpts.{excerpt_of, first_drawn, last_drawn};
+ghost use Rattle.apex_pictures.specs.Axes.{HasColumns};
 ghost use Rattle.apex_pictures.specs.Rows.{HasRows};
-ghost use Rattle.apex_pictures.specs.Svg.{behind, column_at, column_place, column_width, has_row, heading_of, row_of, shows};
+ghost use Rattle.apex_pictures.specs.Svg.{behind, column_place, column_width, has_row, heading_of, row_of};
 
-use crate::axes::{behind_of, last_column, places_of};
-use crate::excerpts::{Excerpt, Extent};
+use crate::columns::Columns;
+use crate::excerpts::{Extent, Timed};
 use crate::marks::Mark;
 use crate::rows::{ROW, Rows};
 use crate::svg::{MOST_CALL, bare_line};
@@ -45,12 +44,8 @@ const END: &str =
 /// The entries of a history that are drawn as SVG, and the places of their columns and of the rows.
 #[derive(Drop)]
 pub struct Frame {
-    /// The number of the first entry that is drawn.
-    pub first: u32,
-    /// The number of the last one.
-    pub last: u32,
-    /// What is drawn, if more was asked for.
-    pub excerpt: Option<Excerpt>,
+    /// The columns of the entries.
+    pub columns: Columns,
     /// The rows of the processes, and the headings of the cores.
     pub rows: Rows,
     /// The mark of a departure, which is drawn behind the last column, if there is one.
@@ -62,10 +57,6 @@ pub struct Frame {
     pub(crate) foot: u32,
     /// The place at which the first column begins.
     pub(crate) left: u32,
-    /// The place of each column, from the first one, in pixels.
-    pub places: Vec<u32>,
-    /// The place behind the last column.
-    pub behind: u32,
     /// The look of the marks.
     pub(crate) style: &'static str,
     /// The meaning of each mark.
@@ -86,24 +77,25 @@ fn longest_name(table: &Table) -> u32
     longest.min(32) as u32
 }
 
-/// The number of letters of the call and the reply at this place of the history.
-fn call_letters<S: Store>(kernel: &Kernel<S>, place: usize) -> usize
-    requires { place < length kernel.now.machine.history }
-{
+/// The number of letters of the call and the reply of the entry of this number; 0 if there is none.
+fn call_letters<S: Store>(kernel: &Kernel<S>, number: u32) -> usize {
     kernel.holds();
-    let entry = kernel.entry(place);
-    bare_line(kernel.table(), &entry).len().saturating_sub(14)
+    let place = number.saturating_sub(1) as usize;
+    if place < kernel.entries().len() {
+        let entry = kernel.entry(place);
+        bare_line(kernel.table(), &entry).len().saturating_sub(14)
+    } else {
+        0
+    }
 }
 
-/// The number of letters that are drawn of the longest call and reply at these places of the
-/// history.
-fn longest_call<S: Store>(kernel: &Kernel<S>, first: usize, end: usize) -> u32
-    requires { end ≤ length kernel.now.machine.history }
+/// The number of letters that are drawn of the longest call and reply of these entries.
+fn longest_call<S: Store>(kernel: &Kernel<S>, entries: &[Timed]) -> u32
     ensures { result ≤ 61 }
 {
     let mut longest = 0;
-    for place in first..end {
-        longest = longest.max(call_letters(kernel, place));
+    for entry in entries {
+        longest = longest.max(call_letters(kernel, entry.number));
     }
     longest.min(MOST_CALL + 1) as u32
 }
@@ -128,42 +120,28 @@ impl Frame {
         extent: Extent,
         only: Option<&[ProcessId]>,
     ) -> Result<Frame, AllocError>
-        ensures first { IfOk result (λ frame. frame.first ≡ first_drawn extent) }
-        ensures last { IfOk result (λ frame. frame.last ≡ last_drawn extent) }
-        ensures excerpt { IfOk result (λ frame. frame.excerpt
-            ≡ excerpt_of extent (length kernel.now.machine.history)) }
+        ensures columns { IfOk result (λ frame. HasColumns axis extent
+            kernel.now.machine.history frame.columns) }
         ensures rows { IfOk result (λ frame. HasRows kernel.now.table
             (option_map (λ list. list.now) only.entry) frame.rows) }
-        ensures places { let history = kernel.now.machine.history in
-            IfOk result (λ frame. frame.places.items
-            ≡ places_of axis history (first_drawn extent) (last_column extent (length history))) }
-        ensures behind { let history = kernel.now.machine.history in
-            IfOk result (λ frame. frame.behind
-            ≡ behind_of axis history (first_drawn extent) (last_column extent (length history))) }
         ensures unmarked { IfOk result (λ frame. frame.mark ≡ None) }
     {
         let table = kernel.table();
-        let first = extent.first_drawn();
-        let end = last_column(kernel, extent);
-        let places = places_of(alloc, kernel, axis, first, end)?;
-        let behind = behind_of(kernel, axis, first, end);
-        let longest = longest_call(kernel, first.saturating_sub(1) as usize, end as usize);
+        let columns = Columns::new(alloc, kernel, axis, extent)?;
+        let longest = longest_call(kernel, columns.drawn.as_slice());
         let top = 20 + RISE * longest;
         let left = 50 + LETTER * longest_name(table);
         let rows = Rows::new(table, only, top);
         let bottom = top + ROW * rows.lines() + 6;
+        let width = left + columns.behind + ADVANCE * longest + 30;
         Ok(Frame {
-            first,
-            last: extent.last_drawn(),
-            excerpt: extent.excerpt(kernel.entries().len()),
+            columns,
             rows,
             mark: None,
-            width: (left + behind + ADVANCE * longest + 30).max(LEAST_WIDTH),
+            width: width.max(LEAST_WIDTH),
             bottom,
             foot: bottom + 40 + RISE * instant_letters(kernel.now()),
             left,
-            places,
-            behind,
             style: STYLE,
             key: KEY,
             end: END,
@@ -172,15 +150,11 @@ impl Frame {
 
     /// The frame with the mark of a departure, and with room for it.
     pub fn marked(mut self, mark: Mark) -> Frame
-        ensures first { result.first ≡ self.first }
-        ensures last { result.last ≡ self.last }
-        ensures excerpt { result.excerpt ≡ self.excerpt }
+        ensures columns { result.columns ≡ self.columns }
         ensures rows { result.rows ≡ self.rows }
-        ensures places { result.places ≡ self.places }
-        ensures behind { result.behind ≡ self.behind }
         ensures mark { result.mark ≡ Some mark }
     {
-        let behind = self.left.saturating_add(self.behind);
+        let behind = self.left.saturating_add(self.columns.behind);
         let width = behind.saturating_add(LETTER * mark.letters() + 30);
         self.width = self.width.max(width);
         self.mark = Some(mark);
@@ -201,7 +175,7 @@ impl Frame {
     pub(crate) fn behind(&self) -> u64
         ensures { result ≡ behind self.now }
     {
-        u64::from(self.left) + u64::from(self.behind)
+        u64::from(self.left) + u64::from(self.columns.behind)
     }
 
     /// The place at which the first column begins.
@@ -212,38 +186,20 @@ impl Frame {
         u64::from(self.left)
     }
 
-    /// The place of the column behind this many others, from the first one.
-    fn column(&self, before: usize) -> u64
-        ensures value { result ≡ column_at self.now before }
-        ensures range { result < 2 ^ 32 }
-    {
-        match self.places.as_slice().get(before) {
-            Some(place) => u64::from(*place),
-            None => u64::from(self.behind),
-        }
-    }
-
     /// The place of the column of the entry of this number.
     pub(crate) fn place(&self, number: u32) -> u64
         ensures { result ≡ column_place self.now number }
     {
-        let before = number.saturating_sub(self.first) as usize;
-        self.edge() + self.column(before)
+        self.edge() + self.columns.at(self.columns.before(number))
     }
 
     /// The width of the column of the entry of this number, up to the next one.
     pub(crate) fn width_of(&self, number: u32) -> u64
         ensures { result ≡ column_width self.now number }
     {
-        let before = number.saturating_sub(self.first) as usize;
-        self.column(before + 1).saturating_sub(self.column(before))
-    }
-
-    /// Whether the entry of this number is drawn.
-    pub(crate) fn shows(&self, number: u32) -> bool
-        ensures { result ≡ shows self.now number }
-    {
-        self.first <= number && number <= self.last
+        let before = self.columns.before(number);
+        let next = self.columns.at(before + 1);
+        next.saturating_sub(self.columns.at(before))
     }
 
     /// The place of the row of a process.

@@ -4,6 +4,7 @@
 
 mod axes;
 mod borders;
+mod columns;
 mod excerpts;
 mod frames;
 mod laws;
@@ -12,9 +13,10 @@ mod rows;
 mod svg;
 
 pub use borders::{put_foot, put_head};
-pub use excerpts::{Excerpt, Extent, MOST_COLUMNS, Side};
+pub use columns::Columns;
+pub use excerpts::{Excerpt, Extent, MOST_COLUMNS, Side, Timed};
 pub use frames::Frame;
-pub use laws::columns_are_apart;
+pub use laws::{columns_are_apart, idle_cells_stay};
 pub use marks::Mark;
 pub use rows::{Rows, Selection};
 pub use svg::put_column;

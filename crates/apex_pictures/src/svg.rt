@@ -3,7 +3,7 @@ ghost use Rattle.std.specs.Prelude.{◌≡◌, ◌≤◌, ◌++◌, codes, drop,
 ghost use Rattle.apex_calls.specs.Lines.{IsPrintable, line_of};
 ghost use Rattle.apex_machine.specs.text.Listing.{texts_of};
 ghost use Rattle.apex_moments.specs.Texts.{xml_text};
-ghost use Rattle.apex_pictures.specs.Svg.{bare, bar_text, call_at, call_end, call_text, cell_at, cell_end, cell_part, cell_text, circle_text, column_end, column_text, corner_text, cut_text, dash_text, dash_to, instant_text, is_heard, is_timed, marks_text, mutex_text, notice_process, outline_text, owns_part, ring_in, ring_text, said_text, start_text, time_text, title_text, waits_part, wedge_at, wedge_text};
+ghost use Rattle.apex_pictures.specs.Svg.{bare, bar_text, call_at, call_end, call_text, cell_at, cell_end, cell_part, cell_text, circle_text, column_end, column_text, corner_text, cut_text, dash_text, dash_to, instant_text, is_heard, marks_text, mutex_text, notice_process, outline_text, owns_part, ring_in, ring_text, said_text, start_text, time_text, title_text, waits_part, wedge_at, wedge_text};
 
 use crate::frames::Frame;
 use apex_configs::Table;
@@ -13,21 +13,11 @@ use apex_moments::{
     Cell, Moment, Part, id_part, name_of, notice_word, put, put_all, put_object, put_wait, put_xml,
     state_word,
 };
-use apex_types::{Caller, LentEntry, Notice, ProcessId, Reply, Who};
+use apex_types::{Caller, LentEntry, Notice, ProcessId, Who};
 use std::alloc::AllocError;
 
 /// The most bytes of a call and its reply that are drawn above a column.
 pub(crate) const MOST_CALL: usize = 60;
-
-/// Whether time goes on with the entry, or it is the first that is drawn.
-fn is_timed(frame: &Frame, entry: &LentEntry<'_>) -> bool
-    ensures { result ≡ is_timed frame.now entry.entry.now }
-{
-    match entry.reply {
-        Reply::Advanced(_, went) => 0 < went || entry.number == frame.first,
-        _ => entry.number == frame.first,
-    }
-}
 
 /// Puts the line and the text of an instant.
 fn put_instant(text: &mut Vec<u8>, frame: &Frame, now: u64) -> Result<(), AllocError>
@@ -53,7 +43,7 @@ fn put_instant(text: &mut Vec<u8>, frame: &Frame, now: u64) -> Result<(), AllocE
 fn put_time(text: &mut Vec<u8>, frame: &Frame, entry: &LentEntry<'_>) -> Result<(), AllocError>
     ensures { OnOk result (text.new.items ≡ text.old.items ++ time_text frame.now entry.entry.now) }
 {
-    if is_timed(frame, entry) {
+    if frame.columns.is_begun(entry) {
         put_instant(text, frame, entry.now)
     } else {
         Ok(())
@@ -626,7 +616,7 @@ pub fn put_column(
     ensures { OnOk result (text.new.items ≡ text.old.items
         ++ column_text table.now frame.now entry.entry.now moment.now) }
 {
-    if !frame.shows(entry.number) {
+    if !frame.columns.shows(entry) {
         return Ok(());
     }
     put_start(text, frame, entry.number)?;

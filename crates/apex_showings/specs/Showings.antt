@@ -1,5 +1,5 @@
 -- How a run is given, and how it is shown.
-use Rattle.std.specs.Prelude.{ℕ, List, Option, option_map}
+use Rattle.std.specs.Prelude.{ℕ, Bool, List, Option, option_map}
 use Rattle.apex_pace.specs.declared.paces.Pace.{Pace}
 use Rattle.apex_scales.specs.declared.Axis.{Axis}
 use Rattle.apex_schedules.specs.declared.Item.{Item}
@@ -25,12 +25,13 @@ pub data Source : Type 0 where
   -- by the history that is read, behind its table
   history : Source
 
--- how an SVG shows a run: the entries of a window, with their columns along an axis, and with rows for
--- the processes of these names or numbers, or for all
+-- how an SVG shows a run: the entries of a window, with their columns along an axis, without those of
+-- idle entries if these are folded, and with rows for the processes of these names or numbers, or for all
 pub record Chart : Type 0 where
   pub window : Window
   pub axis : Axis
   pub only : Option (List (List ℕ))
+  pub fold : Bool
 
 -- how a picture shows a run
 pub data Picture : Type 0 where
@@ -68,6 +69,7 @@ chart_said chart = record {
   window = chart.window;
   axis = chart.axis;
   only = option_map (λ list. list.items) chart.only;
+  fold = chart.fold;
 }
 
 -- how a picture shows a run, of a value of the program

@@ -56,10 +56,12 @@ abbrev pub widened : Option Span → ℕ → Span
 widened None number = record { first = number; last = number }
 widened (Some span) number = record { first = span.first; last = number }
 
--- a window, with the number of entries of a machine's history and its time
-abbrev pub empty_in : Window → Machine → EmptyWindow
-empty_in window machine = record {
+-- a window, with the number of entries of a machine's history and its time, and with idle entries folded
+-- or not
+abbrev pub empty_in : Window → Bool → Machine → EmptyWindow
+empty_in window fold machine = record {
   window = window;
+  fold = fold;
   entries = length machine.history;
   now = machine.roster.now;
 }

@@ -28,6 +28,8 @@ pub struct Chart {
     pub axis: Axis,
     /// The names or the numbers of the processes that have a row. None if all have one.
     pub only: Option<Vec<Name>>,
+    /// Whether idle entries are folded: they have no column.
+    pub fold: bool,
 }
 
 /// How a picture shows a run.

@@ -29,10 +29,12 @@ pub struct Span {
     pub last: u32,
 }
 
-/// A window in which a run has no entry.
+/// A window in which a run has no entry, or none but idle ones.
 #[derive(Clone, Copy)]
 pub struct EmptyWindow {
     pub window: Window,
+    /// Whether idle entries are folded.
+    pub fold: bool,
     /// The number of entries of the run.
     pub entries: usize,
     /// The time at its end, in ticks.
@@ -104,12 +106,13 @@ impl Window {
         span
     }
 
-    /// The window, in which a kernel's history has no entry.
-    pub fn empty_in<S: Store>(self, kernel: &Kernel<S>) -> EmptyWindow
-        ensures { result ≡ empty_in self kernel.now.machine }
+    /// The window, in which a kernel's history has no entry, or none but idle ones if these are folded.
+    pub fn empty_in<S: Store>(self, fold: bool, kernel: &Kernel<S>) -> EmptyWindow
+        ensures { result ≡ empty_in self fold kernel.now.machine }
     {
         EmptyWindow {
             window: self,
+            fold,
             entries: kernel.entries().len(),
             now: kernel.now(),
         }

@@ -4,8 +4,9 @@ use Rattle.clap.specs.Words.{Row, Text, first_of}
 use Rattle.apex_console.specs.Words.{says_given}
 use Rattle.apex_tasks.specs.Words.{Given, LintSaid, SearchSaid, as_svg, given_by, given_in, lint_in, search_in, why_in, why_of}
 
-pub same_svg : {f k l m a b o p : Option Text} → f ≡ k → l ≡ m → a ≡ b → o ≡ p → as_svg f l a o ≡ as_svg k m b p
-same_svg x y z w = rw (x, y, z, w) refl
+pub same_svg : {f k l m a b o p : Option Text} {c d : Bool} → f ≡ k → l ≡ m → a ≡ b → o ≡ p → c ≡ d
+    → as_svg f l a o c ≡ as_svg k m b p d
+same_svg x y z w v = rw (x, y, z, w, v) refl
 
 pub same_given : {s t u v k l e f : Option Text} → s ≡ t → u ≡ v → k ≡ l → e ≡ f → given_by s u k e ≡ given_by t v l f
 same_given a b c d = rw (a, b, c, d) refl

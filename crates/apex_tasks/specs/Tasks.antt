@@ -75,22 +75,24 @@ source_in by_schedule_read = Ok schedule_read
 source_in (by_pace until turns early) = or_unasked ill_formed (paced_source until turns early)
 source_in by_history = Ok history
 
--- the chart of this window along an axis, with rows for the processes of these names, or for all
-abbrev pub chart_of : Window → Axis → Option (List Text) → Chart
-chart_of window axis only = record { window = window; axis = axis; only = only }
+-- the chart of this window along an axis, with idle entries folded or not, and with rows for the
+-- processes of these names, or for all
+abbrev pub chart_of : Window → Axis → Bool → Option (List Text) → Chart
+chart_of window axis fold only =
+    record { window = window; axis = axis; only = only; fold = fold }
 
 -- how an SVG shows a run; none if a bound, the word of an axis or a name is ill-formed
-abbrev pub chart_in : Option Text → Option Text → Option Text → Option Text → Option Chart
-chart_in first last axis only =
+abbrev pub chart_in : Option Text → Option Text → Option Text → Option Text → Bool → Option Chart
+chart_in first last axis only fold =
     option_and_then
-    (λ window. option_and_then (λ along. option_map (chart_of window along) (names_in only))
+    (λ window. option_and_then (λ along. option_map (chart_of window along fold) (names_in only))
     (axis_in axis))
     (window_between first last)
 
 -- how a run is shown; none if a text is ill-formed
 abbrev pub view_in : Shown → Option View
-view_in (as_svg first last axis only) =
-    option_map (λ chart. drawn (svg chart)) (chart_in first last axis only)
+view_in (as_svg first last axis only fold) =
+    option_map (λ chart. drawn (svg chart)) (chart_in first last axis only fold)
 view_in (as_trace tick) = option_map (λ length. drawn (trace length)) (tick_in tick)
 view_in (as_listing listing) = Some (listed listing)
 

@@ -26,15 +26,18 @@ view_command name =
     (option_rule (codes "turns")))
     (option_rule (codes "early"))
 
--- `svg`, which has `[--from N] [--to M] [--by AXIS] [--only NAME,NAME]` too
+-- `svg`, with the options of its window alone, `[--from N] [--to M]`
+abbrev pub svg_of_window : App
+svg_of_window =
+    with_rule (with_rule (view_command (codes "svg")) (option_rule (codes "from")))
+    (option_rule (codes "to"))
+
+-- `svg`, which has `[--by AXIS] [--only NAME,NAME] [--fold]` too
 abbrev pub svg : App
 svg =
     with_rule
-    (with_rule
-    (with_rule (with_rule (view_command (codes "svg")) (option_rule (codes "from")))
-    (option_rule (codes "to")))
-    (option_rule (codes "by")))
-    (option_rule (codes "only"))
+    (with_rule (with_rule svg_of_window (option_rule (codes "by"))) (option_rule (codes "only")))
+    (flag_rule (codes "fold"))
 
 -- `trace`, which has `[--tick-us N]` too
 abbrev pub trace_command : App
@@ -132,8 +135,8 @@ pub data Given : Type 0 where
 -- how a run is shown
 pub data Shown : Type 0 where
   -- as SVG, with the texts of the first bound, of the last one, of the axis and of the names of
-  -- processes, if they are given
-  as_svg : Option Text → Option Text → Option Text → Option Text → Shown
+  -- processes, if they are given, and with idle entries folded or not
+  as_svg : Option Text → Option Text → Option Text → Option Text → Bool → Shown
   -- as a trace, with the text of the length of a tick, if it is given
   as_trace : Option Text → Shown
   -- as this listing
@@ -186,9 +189,9 @@ given_said source.History = by_history
 
 -- how a run is shown, of a value of the program
 abbrev pub shown_said : ViewWords → Shown
-shown_said (view.Svg first last axis only) =
+shown_said (view.Svg first last axis only fold) =
     as_svg (option_map (λ text. text.now) first) (option_map (λ text. text.now) last)
-    (option_map (λ text. text.now) axis) (option_map (λ text. text.now) only)
+    (option_map (λ text. text.now) axis) (option_map (λ text. text.now) only) fold
 shown_said (view.Trace tick) = as_trace (option_map (λ text. text.now) tick)
 shown_said (view.Listing listing) = as_listing listing
 
@@ -251,6 +254,7 @@ abbrev pub svg_in : List Row → Shown
 svg_in rows =
     as_svg (first_of (codes "from") rows) (first_of (codes "to") rows)
     (first_of (codes "by") rows) (first_of (codes "only") rows)
+    (says_given (first_of (codes "fold") rows))
 
 -- how the trace for the rows of a command is shown
 abbrev pub trace_in : List Row → Shown

@@ -84,18 +84,20 @@ fn read_source(alloc: Global, source: SourceWords<'_>) -> Result<RunSource, Task
     }
 }
 
-/// How an SVG shows a run, by the texts of the bounds, of the axis and of the names of processes. None
-/// if one is ill-formed.
+/// How an SVG shows a run, by the texts of the bounds, of the axis and of the names of processes, with
+/// idle entries folded or not. None if a text is ill-formed.
 fn read_chart(
     alloc: Global,
     first: Option<&str>,
     last: Option<&str>,
     axis: Option<&str>,
     only: Option<&str>,
+    fold: bool,
 ) -> Result<Option<Chart>, AllocError>
     ensures { IfOk result (λ found. option_map chart_said found ≡ chart_in
         (option_map (λ text. text.now) first.entry) (option_map (λ text. text.now) last.entry)
-        (option_map (λ text. text.now) axis.entry) (option_map (λ text. text.now) only.entry)) }
+        (option_map (λ text. text.now) axis.entry) (option_map (λ text. text.now) only.entry)
+        fold) }
 {
     let Some(window) = window_given(first, last) else {
         return Ok(None);
@@ -106,7 +108,12 @@ fn read_chart(
     let Some(only) = names_given(alloc, only)? else {
         return Ok(None);
     };
-    Ok(Some(Chart { window, axis, only }))
+    Ok(Some(Chart {
+        window,
+        axis,
+        only,
+        fold,
+    }))
 }
 
 /// How a run is shown. None if a bound, the word of an axis, a name or a number is ill-formed.
@@ -120,7 +127,8 @@ fn read_view(alloc: Global, view: ViewWords<'_>) -> Result<Option<View>, AllocEr
             last,
             axis,
             only,
-        } => match read_chart(alloc, first, last, axis, only)? {
+            fold,
+        } => match read_chart(alloc, first, last, axis, only, fold)? {
             Some(chart) => Ok(Some(View::Picture(Picture::Svg(chart)))),
             None => Ok(None),
         },

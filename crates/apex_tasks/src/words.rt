@@ -3,7 +3,7 @@ ghost use Rattle.std.specs.Prelude.{◌≡◌, false, IfOk, IfErr, IsErrOf, Some
 ghost use Rattle.clap.specs.declared.builder.command.Command.TheViews.{out-Command as fields_of};
 ghost use Rattle.clap.specs.Words.{app_of, found_of, rows_of, subcommand_rows_of};
 ghost use Rattle.apex_console.specs.Faults.{IsUsageOrMemory};
-ghost use Rattle.apex_tasks.specs.Words.{check_command, comments_in, dump_in, form_in, given_by, given_in, given_said, json_view_command, lab, lab_of_pictures, lab_of_searches, lab_of_views, lint_command, lint_in, lint_words_said, question_command, request_in, request_of, request_said, search_command, search_in, search_said, shown_said, showing_in, step_command, svg, svg_in, trace_command, trace_in, view_command, view_of, why_command, why_in};
+ghost use Rattle.apex_tasks.specs.Words.{check_command, comments_in, dump_in, form_in, given_by, given_in, given_said, json_view_command, lab, lab_of_pictures, lab_of_searches, lab_of_views, lint_command, lint_in, lint_words_said, question_command, request_in, request_of, request_said, search_command, search_in, search_said, shown_said, showing_in, step_command, svg, svg_in, svg_of_window, trace_command, trace_in, view_command, view_of, why_command, why_in};
 
 use apex_console::{CliFault, flag, has_flag, matches_of, option};
 use apex_objects::Form;
@@ -33,12 +33,13 @@ pub enum SourceWords<'a> {
 #[derive(Clone, Copy)]
 pub enum ViewWords<'a> {
     /// As SVG, with the texts of the first bound, of the last one, of the axis and of the names of
-    /// processes, if they are given.
+    /// processes, if they are given, and whether idle entries are folded.
     Svg {
         first: Option<&'a str>,
         last: Option<&'a str>,
         axis: Option<&'a str>,
         only: Option<&'a str>,
+        fold: bool,
     },
     /// As a trace, with the text of the length of a tick, if it is given.
     Trace(Option<&'a str>),
@@ -108,14 +109,22 @@ fn view_command<'a>(alloc: Global, name: &'static str) -> Result<Command<'a>, Al
     with_turns.arg(option(alloc, "early"))
 }
 
+/// `svg`, with the options of its window alone.
+fn svg_window_command<'a>(alloc: Global) -> Result<Command<'a>, AllocError>
+    ensures app { IfOk result (λ c. app_of c ≡ svg_of_window) }
+    ensures local { IfOk result (λ c. (fields_of c).has_globals ≡ false) }
+{
+    let with_from = view_command(alloc, "svg")?.arg(option(alloc, "from"))?;
+    with_from.arg(option(alloc, "to"))
+}
+
 fn svg_command<'a>(alloc: Global) -> Result<Command<'a>, AllocError>
     ensures app { IfOk result (λ c. app_of c ≡ svg) }
     ensures local { IfOk result (λ c. (fields_of c).has_globals ≡ false) }
 {
-    let with_from = view_command(alloc, "svg")?.arg(option(alloc, "from"))?;
-    let with_to = with_from.arg(option(alloc, "to"))?;
-    let with_by = with_to.arg(option(alloc, "by"))?;
-    with_by.arg(option(alloc, "only"))
+    let with_by = svg_window_command(alloc)?.arg(option(alloc, "by"))?;
+    let with_only = with_by.arg(option(alloc, "only"))?;
+    with_only.arg(flag(alloc, "fold"))
 }
 
 fn trace_command<'a>(alloc: Global) -> Result<Command<'a>, AllocError>
@@ -232,8 +241,8 @@ fn command<'a>(alloc: Global) -> Result<Command<'a>, AllocError>
 
 /// What the words ask for: `svg`, `trace`, `lines`, `status`, `report` or `schedule`, with
 /// `--schedule S`, with `--until T [--turns K] [--early E]`, or with neither; `svg` also with
-/// `[--from N] [--to M] [--by AXIS] [--only NAME,NAME]`, `trace` with `[--tick-us N]`, and `lines`, `status` and `report` with
-/// `[--json]`; or `search`
+/// `[--from N] [--to M] [--by AXIS] [--only NAME,NAME] [--fold]`, `trace` with `[--tick-us N]`, and
+/// `lines`, `status` and `report` with `[--json]`; or `search`
 /// with `[--for WORD] [--process P] [--service WORD] [--turns K] [--early E] [--states N] [--jobs N]`,
 /// or with `--worst P` in place of the first three; or `lint` with
 /// `[--json] [--name FILE] [--allow WORD,WORD]`; or `step` with `[--json]`;
@@ -302,6 +311,7 @@ fn svg_given<'a>(matches: &ArgMatches<'a>) -> ViewWords<'a>
         last: matches.get_str("to"),
         axis: matches.get_str("by"),
         only: matches.get_str("only"),
+        fold: has_flag(matches, "fold"),
     }
 }
 

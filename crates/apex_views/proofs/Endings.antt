@@ -37,7 +37,7 @@ outcome_of (runs_to table machine fault) = shows table machine fault
 run_is : (answer : Answer) (made : GivenRun) → IsRunTo answer made → outcome_of_run None made ≡ outcome_of answer
 run_is answer (run_in.Picture plan) is = sym (ap outcome_of is)
 run_is answer (run_in.Listing listing run) is = sym (ap outcome_of is)
-run_is answer (run_in.Empty window run) is = sym (ap outcome_of is)
+run_is answer (run_in.Empty window fold run) is = sym (ap outcome_of is)
 run_is answer (run_in.Lacking name run) is = sym (ap outcome_of is)
 
 pub outcome_is : (answer : Answer) (given : Given) → IsGivenTo answer given → outcome_in (Ok given) ≡ outcome_of answer
@@ -71,7 +71,7 @@ module _ {left : Option (List ℕ)} {failed : ℕ} where
     gives_made : (made : GivenRun) → IsRunTo answer made → Gives left failed source (outcome_of_run None made) after
     gives_made (run_in.Picture plan) is = gives_run _ _ _ is
     gives_made (run_in.Listing listing run) is = gives_run _ _ _ is
-    gives_made (run_in.Empty window run) is = gives_run _ _ _ is
+    gives_made (run_in.Empty window fold run) is = gives_run _ _ _ is
     gives_made (run_in.Lacking name run) is = gives_run _ _ _ is
 
     pub gives_given : (given : Given) → IsGivenTo answer given → Gives left failed source (outcome_in (Ok given)) after
@@ -130,7 +130,7 @@ module _ {held after : Option (List ℕ)} {failed failures : ℕ} where
 -- what is drawn is what the style says
 pub excerpt_is : (picture : Picture) (table : tables.Table) (entries : List Entry) (style : Style) → IsStyleOf picture table entries None style
     → excerpt_in (drawn picture) entries ≡ excerpt_with style
-excerpt_is (svg chart) table entries (styles.Svg frame) is = ap (λ s. excerpt_at s (length entries)) is.is ∙ sym is.shows.excerpt
+excerpt_is (svg chart) table entries (styles.Svg frame) is = ap (λ s. excerpt_at chart.fold s entries) is.is ∙ sym is.shows.columns.excerpt
 excerpt_is (svg chart) table entries (styles.Trace tick) is = absurd is
 excerpt_is (trace asked) table entries (styles.Svg frame) is = absurd is
 excerpt_is (trace asked) table entries (styles.Trace tick) is = refl

@@ -1,4 +1,5 @@
 pub mod Before
+pub mod Drawn
 pub mod Endings
 pub mod Gives
 pub mod Listed

@@ -60,7 +60,7 @@ pub run_before : (departure : DepartureIn) (made : GivenRun) (table : tables.Tab
     → outcome_of_run (Some departure) made ≡ parts table machine (departure_said departure)
 run_before departure (run_in.Picture plan) table machine is = sym (ap (before_of departure) is)
 run_before departure (run_in.Listing listing run) table machine is = sym (ap (before_of departure) is)
-run_before departure (run_in.Empty window run) table machine is = sym (ap (before_of departure) is)
+run_before departure (run_in.Empty window fold run) table machine is = sym (ap (before_of departure) is)
 run_before departure (run_in.Lacking name run) table machine is = sym (ap (before_of departure) is)
 
 -- a text with a fault, or no memory

@@ -1,5 +1,5 @@
 -- A history that departs from what the partition does, and the run before the departure.
-use Rattle.std.specs.Prelude.{◌≡◌, ℕ, ◌+◌, ◌-◌, ◌==◌, false, List, length, Option, None, Some, if◌then◌else◌}
+use Rattle.std.specs.Prelude.{◌≡◌, ℕ, ◌+◌, ◌-◌, ◌==◌, Bool, false, List, length, Option, None, Some, if◌then◌else◌}
 use Rattle.apex_check.specs.Histories.{Follows}
 use Rattle.apex_check.specs.Texts.{BeginsWithTable}
 use Rattle.apex_check.specs.Verdicts.{Judges, verdict_text}
@@ -66,13 +66,14 @@ side_before None = First
 side_before (Some departure) = Last
 
 -- The entries that a picture of a span is asked to show, of a history of `entries` entries, behind which
--- there may be a departure. If it has too many columns, and the departure follows the last of them, the
--- last ones are drawn.
-abbrev pub extent_of : Option Departure → ℕ → Span → Extent
-extent_of departure entries span = record {
+-- there may be a departure, with idle entries folded or not. If it has too many columns, and the
+-- departure follows the last entry of the span, the last ones are drawn.
+abbrev pub extent_of : Option Departure → ℕ → Bool → Span → Extent
+extent_of departure entries fold span = record {
   first = span.first;
   last = span.last;
   side = side_before (departure_behind span.last entries departure);
+  fold = fold;
 }
 
 -- a picture marks this departure: it shows both lines; or it has no mark, if there is none

@@ -1,5 +1,5 @@
 -- The faults of a showing.
-use Rattle.std.specs.Prelude.{◌==◌, codes, decimal, ℕ, List, [], ◌++◌, if◌then◌else◌}
+use Rattle.std.specs.Prelude.{◌==◌, Bool, codes, decimal, ℕ, List, [], ◌++◌, if◌then◌else◌}
 use Rattle.apex_console.specs.declared.CliFault.TheVariants.{Memory}
 use Rattle.apex_types.specs.declared.limits.TheConstants.{MOST_ENTRIES}
 use Rattle.apex_pictures.specs.declared.Excerpt.{Excerpt}
@@ -58,10 +58,15 @@ entries_text entries =
 abbrev pub end_part : EmptyWindow → List ℕ
 end_part empty = if has_time empty.window then codes " up to " ++ time_text empty.now else []
 
--- the line that reports that a run has no entry in a window
+-- the entries that are looked for, with idle entries folded or not
+abbrev pub sought_text : Bool → List ℕ
+sought_text fold = if fold then codes "no entry but idle ones" else codes "no entry"
+
+-- the line that reports that a run has no entry in a window, or none but idle ones
 abbrev pub window_line : EmptyWindow → List ℕ
 window_line empty =
-    codes "apex_lab: the run has no entry from " ++ bound_text empty.window.first
+    codes "apex_lab: the run has " ++ sought_text empty.fold ++ codes " from "
+    ++ bound_text empty.window.first
     ++ codes " to " ++ bound_text empty.window.last ++ codes ", it has "
     ++ entries_text empty.entries ++ end_part empty ++ codes "\n"
 

@@ -23,14 +23,15 @@ use Rattle.apex_console.specs.declared.CliFault.TheVariants.{Memory, Write}
 use Rattle.apex_schedules.specs.declared.Item.{Item}
 use Rattle.apex_drawing.specs.declared.DrawFault.{DrawFault}
 use Rattle.apex_drawing.specs.declared.DrawFault.TheVariants as draw
-use Rattle.apex_pictures.specs.Axes.{behind_of, last_column, places_of}
-use Rattle.apex_pictures.specs.Excerpts.{excerpt_of, first_drawn, last_drawn}
+use Rattle.apex_pictures.specs.Axes.{HasColumns}
+use Rattle.apex_pictures.specs.Excerpts.{columns_of, excerpt_of}
 use Rattle.apex_drawing.specs.Pictures.{picture_text}
 use Rattle.apex_pictures.specs.Rows.{HasRows}
 use Rattle.apex_scales.specs.declared.Axis.{Axis}
 use Rattle.apex_pictures.specs.declared.Excerpt.{Excerpt}
 use Rattle.apex_pictures.specs.declared.Extent.{Extent}
 use Rattle.apex_pictures.specs.declared.Frame.{Frame}
+use Rattle.apex_pictures.specs.declared.Timed.{Timed}
 use Rattle.apex_drawing.specs.declared.Style.{Style}
 use Rattle.apex_drawing.specs.declared.Style.TheVariants as style
 use Rattle.apex_views.specs.Departures.{Departure, Marks, departure_behind, extent_of}
@@ -57,22 +58,16 @@ pub record IsListOf (limit : ℕ) (all events : List Event) (is_cut : Bool) : Ty
   pub whole : is_cut ≡ false → (rest ≡ []) × (length events ≤ limit)
   pub cut : is_cut ≡ true → (length events ≡ limit) × (0 < length rest)
 
--- A frame is for an extent of a history: it shows its entries, `MOST_COLUMNS` of them at the most, and
--- says so if these are not all. Their columns stand along the axis. It marks the departure behind the
--- history, if there is one and the last entry is drawn.
+-- A frame is for an extent of a history: it has the columns of its entries, `MOST_COLUMNS` of them at
+-- the most, and says so if these are not all. The columns stand along the axis. It marks the departure
+-- behind the history, if there is one and the extent ends with the last entry.
 pub record IsFrameFor (axis : Axis) (extent : Extent) (history : List Entry)
     (departure : Option Departure) (frame : Frame) : Type 0 where
-  pub first : frame.first ≡ first_drawn extent
-  pub last : frame.last ≡ last_drawn extent
-  pub excerpt : frame.excerpt ≡ excerpt_of extent (length history)
-  pub places : frame.places.items
-      ≡ places_of axis history (first_drawn extent) (last_column extent (length history))
-  pub behind : frame.behind
-      ≡ behind_of axis history (first_drawn extent) (last_column extent (length history))
-  pub mark : Marks (departure_behind frame.last (length history) departure) frame.mark
+  pub columns : HasColumns axis extent history frame.columns
+  pub mark : Marks (departure_behind extent.last (length history) departure) frame.mark
 
 -- a frame is that of a chart: it shows the entries from the first one of the window to the last, along
--- the axis, and has rows for the processes that are named
+-- the axis, folds those that are idle if this is asked for, and has rows for the processes that are named
 pub record IsFrameOf (chart : Chart) (table : tables.Table) (history : List Entry)
     (departure : Option Departure) (frame : Frame) : Type 0 where
   pub span : Span
@@ -80,8 +75,8 @@ pub record IsFrameOf (chart : Chart) (table : tables.Table) (history : List Entr
   pub is : span_in chart.window history ≡ Some span
   pub named : rows_for table chart.only ≡ Ok only
   pub rows : HasRows table only frame.rows
-  pub shows : IsFrameFor chart.axis (extent_of departure (length history) span) history departure
-      frame
+  pub shows : IsFrameFor chart.axis (extent_of departure (length history) chart.fold span) history
+      departure frame
 
 -- a style is that of a picture of a table's history, behind which there may be a departure
 abbrev pub IsStyleOf : Picture → tables.Table → List Entry → Option Departure → Style → Type 0
@@ -91,21 +86,33 @@ IsStyleOf (svg chart) table history departure (style.Trace tick) = ⊥
 IsStyleOf (trace asked) table history departure (style.Svg frame) = ⊥
 IsStyleOf (trace asked) table history departure (style.Trace tick) = tick ≡ asked
 
--- the part of a span that is drawn, in a run of `entries` entries; none if all of it is drawn
-abbrev pub excerpt_at : Option Span → ℕ → Option Excerpt
-excerpt_at None entries = None
-excerpt_at (Some span) entries = excerpt_of (extent_of None entries span) entries
+-- the entries of a span of a history that have a column, with idle entries folded or not; there is none
+-- without a span
+abbrev pub columns_in : Bool → Option Span → List Entry → List Timed
+columns_in fold None history = []
+columns_in fold (Some span) history =
+    columns_of (extent_of None (length history) fold span) history
+
+-- the entries of the window of a chart that have a column
+abbrev pub columns_asked : Chart → List Entry → List Timed
+columns_asked chart history = columns_in chart.fold (span_in chart.window history) history
+
+-- the part of a span that is drawn of a history; none if all of its columns are drawn
+abbrev pub excerpt_at : Bool → Option Span → List Entry → Option Excerpt
+excerpt_at fold None history = None
+excerpt_at fold (Some span) history =
+    excerpt_of (extent_of None (length history) fold span) history
 
 -- what a view shows of a history, if more was asked for
 abbrev pub excerpt_in : View → List Entry → Option Excerpt
 excerpt_in (drawn (svg chart)) history =
-    excerpt_at (span_in chart.window history) (length history)
+    excerpt_at chart.fold (span_in chart.window history) history
 excerpt_in (drawn (trace tick)) history = None
 excerpt_in (listed listing) history = None
 
 -- what is drawn in a style, if more was asked for
 abbrev pub excerpt_with : Style → Option Excerpt
-excerpt_with (style.Svg frame) = frame.excerpt
+excerpt_with (style.Svg frame) = frame.columns.excerpt
 excerpt_with (style.Trace tick) = None
 
 -- the machine of which a plan's picture is

@@ -1,5 +1,5 @@
 -- What a source gives, and how a run is shown.
-use Rattle.std.specs.Prelude.{◌≡◌, ℕ, List, Option, None, Some, Result, Ok, Err, option_map}
+use Rattle.std.specs.Prelude.{◌≡◌, ℕ, Bool, List, [], Option, None, Some, Result, Ok, Err, option_map}
 use Rattle.std.specs.Io.KnownBytes.{Keeps}
 use Rattle.apex_history.specs.Counted.{one_more}
 use Rattle.apex_history.specs.Ports.{Ports}
@@ -21,10 +21,10 @@ use Rattle.apex_views.specs.Departures.{Departure, DepartsBehind, departure_at, 
 use Rattle.apex_showings.specs.Schedules.{IsBadIn}
 use Rattle.apex_views.specs.Paced.{paced_answer}
 use Rattle.apex_pictures.specs.declared.Excerpt.{Excerpt}
-use Rattle.apex_views.specs.Plans.{AppendsPrefixOfView, AppendsView, IsPlanFor, excerpt_in, machine_of}
+use Rattle.apex_views.specs.Plans.{AppendsPrefixOfView, AppendsView, IsPlanFor, columns_asked, excerpt_in, machine_of}
 use Rattle.apex_views.specs.Rows.{rows_for}
 use Rattle.apex_showings.specs.Showings.{Chart, Picture, Showing, Source, View, drawn, history, listed, paced, schedule, schedule_read, svg, trace}
-use Rattle.apex_showings.specs.Windows.{empty_in, span_in}
+use Rattle.apex_showings.specs.Windows.{empty_in}
 use Rattle.apex_views.specs.declared.departures.Departure.{Departure as DepartureIn}
 use Rattle.apex_showings.specs.declared.BadSchedule.{BadSchedule}
 use Rattle.apex_views.specs.declared.faults.ShowFault.{ShowFault}
@@ -167,7 +167,7 @@ outcome_of_run departure (run_in.Picture plan) =
     outcome_with departure plan.table (machine_of plan) plan.fault
 outcome_of_run departure (run_in.Listing listing run) =
     outcome_with departure run.kernel.table run.kernel.machine run.fault
-outcome_of_run departure (run_in.Empty window run) =
+outcome_of_run departure (run_in.Empty window fold run) =
     outcome_with departure run.kernel.table run.kernel.machine run.fault
 outcome_of_run departure (run_in.Lacking name run) =
     outcome_with departure run.kernel.table run.kernel.machine run.fault
@@ -183,12 +183,15 @@ pub record IsPlanIn (view : View) (departure : Option Departure) (plan : Plan) :
   pub is : view ≡ drawn picture
   pub planned : IsPlanFor picture departure plan
 
--- the view is a chart of this window, and a history has no entry in the window
-pub record IsEmptyIn (view : View) (window : Window) (history : List Entry) : Type 0 where
+-- the view is a chart of this window, with idle entries folded or not, and no entry of a history in the
+-- window has a column
+pub record IsEmptyIn (view : View) (window : Window) (fold : Bool) (history : List Entry)
+    : Type 0 where
   pub chart : Chart
   pub is : view ≡ drawn (svg chart)
   pub window_is : chart.window ≡ window
-  pub none : span_in window history ≡ None
+  pub fold_is : chart.fold ≡ fold
+  pub none : columns_asked chart history ≡ []
 
 -- the view is a chart with a row for a process of this name or number, which a table lacks
 pub record IsLackingIn (view : View) (table : tables.Table) (name : List ℕ) : Type 0 where
@@ -197,13 +200,13 @@ pub record IsLackingIn (view : View) (table : tables.Table) (name : List ℕ) : 
   pub lacks : rows_for table chart.only ≡ Err name
 
 -- A run that a source gave, behind which there may be a departure, is to be shown in this view: its
--- picture is planned for the view, the view is its listing, the run has no entry in the window of the
--- view, or its table lacks a process that is to have a row.
+-- picture is planned for the view, the view is its listing, the run has no entry with a column in the
+-- window of the view, or its table lacks a process that is to have a row.
 abbrev pub IsRunFor : View → Option Departure → GivenRun → Type 0
 IsRunFor view departure (run_in.Picture plan) = IsPlanIn view departure plan
 IsRunFor view departure (run_in.Listing listing run) = view ≡ listed listing
-IsRunFor view departure (run_in.Empty window run) =
-    IsEmptyIn view window run.kernel.machine.history
+IsRunFor view departure (run_in.Empty window fold run) =
+    IsEmptyIn view window fold run.kernel.machine.history
 IsRunFor view departure (run_in.Lacking name run) = IsLackingIn view run.kernel.table name
 
 -- what a source gave is to be shown in this view
@@ -215,7 +218,7 @@ abbrev pub IsRunTo : Answer → GivenRun → Type 0
 IsRunTo answer (run_in.Picture plan) = answer ≡ runs_to plan.table (machine_of plan) plan.fault
 IsRunTo answer (run_in.Listing listing run) =
     answer ≡ runs_to run.kernel.table run.kernel.machine run.fault
-IsRunTo answer (run_in.Empty window run) =
+IsRunTo answer (run_in.Empty window fold run) =
     answer ≡ runs_to run.kernel.table run.kernel.machine run.fault
 IsRunTo answer (run_in.Lacking name run) =
     answer ≡ runs_to run.kernel.table run.kernel.machine run.fault
@@ -229,10 +232,10 @@ abbrev pub end_before : Departure → Option CliFault → ShowEnd
 end_before departure None = departs departure.verdict
 end_before departure (Some fault) = fails (Common fault)
 
--- a view shows nothing of a history that departs: it is a listing, or the history has no entry in its
--- window before the departure
+-- a view shows nothing of a history that departs: it is a listing, or no entry before the departure that
+-- is in its window has a column
 abbrev pub IsUnshown : View → List Entry → Type 0
-IsUnshown (drawn (svg chart)) entries = span_in chart.window entries ≡ None
+IsUnshown (drawn (svg chart)) entries = columns_asked chart entries ≡ []
 IsUnshown (drawn (trace tick)) entries = ⊥
 IsUnshown (listed listing) entries = Unit {0}
 
@@ -256,11 +259,11 @@ pub data ShowsOutcome (view : View) (held : Option (List ℕ)) (failed : ℕ)
       → Shows view table machine None held failed fault after failures
       → ShowsOutcome view held failed (shows table machine reported)
       (end_of (excerpt_in view machine.history) (first_fault fault reported)) after failures
-  -- the machine has no entry in the window of the picture: nothing was written
+  -- no entry of the machine in the window of the picture has a column: nothing was written
   empty : (table : tables.Table) (machine : Machine) (reported : Option CliFault) (window : Window)
-      → {after : Option (List ℕ)} → IsEmptyIn view window machine.history → Keeps held after
+      (fold : Bool) → {after : Option (List ℕ)} → IsEmptyIn view window fold machine.history → Keeps held after
       → ShowsOutcome view held failed (shows table machine reported)
-      (fails (Empty (empty_in window machine))) after failed
+      (fails (Empty (empty_in window fold machine))) after failed
   -- the table lacks a process that is to have a row: nothing was written
   lacking : (table : tables.Table) (name : List ℕ) → {outcome : Outcome} {after : Option (List ℕ)}
       → IsRunOn outcome table → IsLackingIn view table name → Keeps held after

@@ -87,10 +87,16 @@ fn mark_of(alloc: Global, lines: &ShownLines) -> Result<Mark, AllocError>
     Ok(Mark { expected, given })
 }
 
-/// The entries that a picture of a span is asked to show, of a history of this many entries: if it has
-/// too many columns, and a departure follows the last of them, the last ones are drawn.
-pub(crate) fn extent_of(departure: &Option<Departure>, entries: usize, span: Span) -> Extent
-    ensures { result ≡ extent_of (option_map departure_said departure.now) entries span }
+/// The entries that a picture of a span is asked to show, of a history of this many entries, with idle
+/// entries folded or not: if it has too many columns, and a departure follows the last entry of the
+/// span, the last ones are drawn.
+pub(crate) fn extent_of(
+    departure: &Option<Departure>,
+    entries: usize,
+    fold: bool,
+    span: Span,
+) -> Extent
+    ensures { result ≡ extent_of (option_map departure_said departure.now) entries fold span }
 {
     let side = match departure {
         Some(_) if span.last as usize == entries => Side::Last,
@@ -100,31 +106,29 @@ pub(crate) fn extent_of(departure: &Option<Departure>, entries: usize, span: Spa
         first: span.first,
         last: span.last,
         side,
+        fold,
     }
 }
 
-/// The frame with the mark of the departure behind a history of this many entries, if there is one
-/// and the frame shows the last entry.
+/// The frame of an extent with the mark of the departure behind a history of this many entries, if there
+/// is one and the extent ends with the last entry.
 pub(crate) fn marked(
     alloc: Global,
     frame: Frame,
     departure: &Option<Departure>,
+    extent: Extent,
     entries: usize,
 ) -> Result<Frame, AllocError>
     requires { frame.mark ≡ None }
-    ensures first { IfOk result (λ found. found.first ≡ frame.first) }
-    ensures last { IfOk result (λ found. found.last ≡ frame.last) }
-    ensures excerpt { IfOk result (λ found. found.excerpt ≡ frame.excerpt) }
+    ensures columns { IfOk result (λ found. found.columns ≡ frame.columns) }
     ensures rows { IfOk result (λ found. found.rows ≡ frame.rows) }
-    ensures places { IfOk result (λ found. found.places.items ≡ frame.places.items) }
-    ensures behind { IfOk result (λ found. found.behind ≡ frame.behind) }
-    ensures mark { IfOk result (λ found. Marks (departure_behind frame.last entries
+    ensures mark { IfOk result (λ found. Marks (departure_behind extent.last entries
         (option_map departure_said departure.now)) found.mark) }
 {
     let Some(departure) = departure else {
         return Ok(frame);
     };
-    if frame.last as usize != entries {
+    if extent.last as usize != entries {
         return Ok(frame);
     }
     let mark = mark_of(alloc, &departure.lines)?;

@@ -1,9 +1,9 @@
 //! The faults with which a showing ends, and their lines.
-ghost use Rattle.std.specs.Prelude.{◌≡◌, ◌+◌, ◌≤◌, ◌++◌, decimal};
+ghost use Rattle.std.specs.Prelude.{◌≡◌, ◌+◌, ◌≤◌, ◌++◌, decimal, length};
 ghost use Rattle.arrayvec.specs.ArrayString.{array_string_len};
 ghost use Rattle.apex_console.specs.Faults.{fault_in, fault_of_read};
 ghost use Rattle.apex_console.specs.declared.CliFault.TheVariants.{Memory};
-ghost use Rattle.apex_views.specs.Faults.{bound_text, end_part, entries_text, excerpt_line, fault_of_items, line_part, reason_text, schedule_line, time_text, too_many_text, window_line};
+ghost use Rattle.apex_views.specs.Faults.{bound_text, end_part, entries_text, excerpt_line, fault_of_items, line_part, reason_text, schedule_line, sought_text, time_text, too_many_text, window_line};
 ghost use Rattle.apex_views.specs.Shows.{first_fault};
 ghost use Rattle.apex_views.specs.declared.faults.ShowFault.TheVariants.{Common};
 ghost use Rattle.apex_views.specs.declared.faults.TheConstants.{LINE_ROOM};
@@ -18,7 +18,7 @@ use itoa::Buffer;
 use std::alloc::AllocError;
 
 /// Room for the bytes of a line that reports a fault.
-const LINE_ROOM: usize = 160;
+const LINE_ROOM: usize = 176;
 
 /// A line that reports a fault.
 pub type Line = ArrayString<LINE_ROOM>;
@@ -30,7 +30,7 @@ pub enum ShowFault {
     Common(CliFault),
     /// The text is no schedule.
     Schedule(BadSchedule),
-    /// The run has no entry in the window of a picture.
+    /// The run has no entry in the window of a picture, or none but idle ones.
     Empty(EmptyWindow),
     /// A picture is to have a row for a process of this name or number, which the table lacks.
     NoProcess(Name),
@@ -196,13 +196,27 @@ fn put_end(line: &mut Line, empty: EmptyWindow)
     }
 }
 
-/// The line that reports that a run has no entry in a window, with its line feed.
+/// The entries that are looked for, with idle entries folded or not.
+fn sought_text(fold: bool) -> &'static str
+    ensures value { result.now ≡ sought_text fold }
+    ensures short { length result.now ≤ 22 }
+{
+    if fold {
+        "no entry but idle ones"
+    } else {
+        "no entry"
+    }
+}
+
+/// The line that reports that a run has no entry in a window, or none but idle ones, with its line feed.
 #[tactic(auto, using(std::proofs::Common::append_assoc))]
 pub fn window_line(empty: EmptyWindow) -> Line
     ensures { result.bytes ≡ window_line empty }
 {
     let mut line = Line::new();
-    line.push_str("apex_lab: the run has no entry from ");
+    line.push_str("apex_lab: the run has ");
+    line.push_str(sought_text(empty.fold));
+    line.push_str(" from ");
     put_bound(&mut line, empty.window.first);
     line.push_str(" to ");
     put_bound(&mut line, empty.window.last);

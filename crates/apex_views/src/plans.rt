@@ -1,5 +1,5 @@
 //! The pictures that are drawn of a run.
-ghost use Rattle.std.specs.Prelude.{◌≡◌, true, All, IfOk, MatchOption, Ok, Option, option_map};
+ghost use Rattle.std.specs.Prelude.{◌≡◌, [], true, All, IfOk, MatchOption, Ok, Option, option_map};
 ghost use Rattle.apex_machine.specs.Machine.{opening, run};
 ghost use Rattle.apex_machine.specs.Events.{IsWithin};
 ghost use Rattle.apex_history.specs.Counted.{inner_of, failures_of};
@@ -9,10 +9,9 @@ ghost use Rattle.apex_console.specs.declared.CliFault.{CliFault as CliFaultOf};
 ghost use Rattle.apex_views.specs.Departures.{Departure as DepartureAt, departure_said};
 ghost use Rattle.apex_views.specs.Shows.{Shows, first_fault};
 ghost use Rattle.apex_drawing.specs.declared.Style.TheVariants.{Trace};
-ghost use Rattle.apex_views.specs.Plans.{IsFrameOf, IsListOf, IsRunOf, IsStyleOf, excerpt_with, fault_of_drawing, machine_of};
+ghost use Rattle.apex_views.specs.Plans.{IsFrameOf, IsListOf, IsRunOf, IsStyleOf, columns_asked, excerpt_with, fault_of_drawing, machine_of};
 ghost use Rattle.apex_views.specs.Rows.{rows_for};
 ghost use Rattle.apex_showings.specs.Showings.{Picture as PictureAsked, chart_said, drawn};
-ghost use Rattle.apex_showings.specs.Windows.{span_in};
 
 use crate::departures::{Departure, extent_of, marked};
 use crate::faults::first_fault;
@@ -46,14 +45,14 @@ impl Plan {
         ensures { result ≡ excerpt_with self.now.style }
     {
         match &self.style {
-            Style::Svg(frame) => frame.excerpt,
+            Style::Svg(frame) => frame.columns.excerpt,
             Style::Trace(_) => None,
         }
     }
 }
 
 /// The frame of a chart of a kernel's history, with rows for these processes, or for all; behind the
-/// history there may be a departure. None if the history has no entry in the window.
+/// history there may be a departure. None if no entry of the history in the window has a column.
 pub(crate) fn frame_for<S: Store>(
     alloc: Global,
     chart: &Chart,
@@ -64,7 +63,7 @@ pub(crate) fn frame_for<S: Store>(
     requires { rows_for kernel.now.table (chart_said chart.now).only
         ≡ Ok (option_map (λ list. list.now) only) }
     ensures { let history = kernel.now.machine.history in IfOk result
-        (λ found. MatchOption found (span_in chart.now.window history ≡ None)
+        (λ found. MatchOption found (columns_asked (chart_said chart.now) history ≡ [])
         (IsFrameOf (chart_said chart.now) kernel.now.table history
         (option_map departure_said departure.now))) }
 {
@@ -72,9 +71,12 @@ pub(crate) fn frame_for<S: Store>(
         return Ok(None);
     };
     let entries = kernel.entries().len();
-    let extent = extent_of(departure, entries, span);
+    let extent = extent_of(departure, entries, chart.fold, span);
     let frame = Frame::new(alloc, kernel, chart.axis, extent, only)?;
-    let frame = marked(alloc, frame, departure, entries)?;
+    if frame.columns.drawn.as_slice().is_empty() {
+        return Ok(None);
+    }
+    let frame = marked(alloc, frame, departure, extent, entries)?;
     Ok(Some(frame))
 }
 

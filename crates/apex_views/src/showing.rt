@@ -79,7 +79,9 @@ fn show_whole<W: Sink>(
             list(alloc, listing, run, writer)?;
             Ok(Shown::Complete)
         }
-        GivenRun::Empty(window, run) => Err(ShowFault::Empty(window.empty_in(&run.kernel))),
+        GivenRun::Empty(window, fold, run) => {
+            Err(ShowFault::Empty(window.empty_in(fold, &run.kernel)))
+        }
         GivenRun::Lacking(name, _) => Err(ShowFault::NoProcess(name)),
     }
 }
@@ -109,9 +111,9 @@ fn show_before<W: Sink>(
 }
 
 /// Shows a run of the table that the reader has, and writes its text. Nothing is written if the
-/// source of the run is at fault, if the table lacks a process that is to have a row, or if the run has
-/// no entry in the window of a picture. The picture of a history that departs is drawn up to the
-/// departure; of such a history no listing is written.
+/// source of the run is at fault, if the table lacks a process that is to have a row, or if no entry of
+/// the run in the window of a picture has a column. The picture of a history that departs is drawn up to
+/// the departure; of such a history no listing is written.
 pub fn show_run<R: Source, W: Sink>(
     alloc: Global,
     showing: &Showing,

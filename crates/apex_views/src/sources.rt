@@ -39,8 +39,9 @@ pub enum GivenRun {
     Picture(Plan),
     /// A run of which a listing is to be written.
     Listing(Listing, Run),
-    /// A run of which this window is to be drawn, and which has no entry in it.
-    Empty(Window, Run),
+    /// A run of which this window is to be drawn, with idle entries folded or not, and of which no entry
+    /// in it has a column.
+    Empty(Window, bool, Run),
     /// A run of which a picture is to have a row for a process of this name or number, which the table
     /// lacks.
     Lacking(Name, Run),
@@ -84,7 +85,7 @@ fn charted(
     let found = frame_for(alloc, chart, only, departure, &run.kernel)?;
     match found {
         Some(frame) => planned(alloc, Style::Svg(frame), run),
-        None => Ok(GivenRun::Empty(chart.window, run)),
+        None => Ok(GivenRun::Empty(chart.window, chart.fold, run)),
     }
 }
 

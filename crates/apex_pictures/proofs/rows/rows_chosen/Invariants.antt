@@ -1,5 +1,5 @@
 -- Whether each process so far has a row.
-use Rattle.std.proofs.Common.{◌≡◌, length, Option}
+use Rattle.std.proofs.Common.{◌≡◌, length}
 use Rattle.std.specs.Prelude.{option_map}
 use Rattle.arrayvec.specs.ArrayVec.{array_vec_len}
 use Rattle.apex_moments.specs.Places.{of_places}

@@ -1,6 +1,7 @@
-use Rattle.std.proofs.Common.{◌∙◌, codes}
+use Rattle.std.proofs.Common.{◌∙◌, ap, codes}
 use Rattle.clap.proofs.WalkLemmas.{first_value-rows}
 use Rattle.clap.specs.Words.{found_of}
+use Rattle.apex_console.specs.Words.{says_given}
 use Rattle.apex_tasks.proofs.CommandLemmas.{same_svg}
 use Rattle.apex_tasks.proofs.words.svg_given.Goals as goal
 
@@ -11,3 +12,4 @@ returns c =
     (c.get_str-2.ensures ∙ first_value-rows found (codes "to"))
     (c.get_str-3.ensures ∙ first_value-rows found (codes "by"))
     (c.get_str-4.ensures ∙ first_value-rows found (codes "only"))
+    (c.has_flag.ensures ∙ ap says_given (first_value-rows found (codes "fold")))

@@ -1,23 +1,25 @@
 -- The frame is that of the span, with the mark of the departure.
-use Rattle.std.proofs.Common.{◌≡◌, ◌∙◌, ap, length, sym}
+use Rattle.std.proofs.Common.{◌≡◌, ◌∙◌, ap, length, subst, sym}
+use Rattle.std.proofs.lemmas.Bool.{eqb-true}
 use Rattle.std.specs.Prelude.{option_map}
-use Rattle.apex_pictures.specs.Axes.{behind_of, last_column, places_of}
-use Rattle.apex_pictures.specs.Excerpts.{excerpt_of, first_drawn, last_drawn}
+use Rattle.apex_pictures.specs.Axes.{HasColumns}
+use Rattle.apex_pictures.specs.Excerpts.{columns_of, drawn}
 use Rattle.apex_pictures.specs.declared.Extent.{Extent}
-use Rattle.apex_views.specs.Departures.{departure_said, extent_of}
+use Rattle.apex_views.specs.Departures.{Marks, departure_behind, departure_said, extent_of}
+use Rattle.apex_views.proofs.Drawn.{drawn_none}
 use Rattle.apex_views.proofs.plans.frame_for.Goals as goal
 
 pub returns : goal.returns
 returns g c =
     let history = c.args.kernel.now.machine.history in
-    let axis = c.args.chart.now.axis in
+    let chart = c.args.chart.now in
     let many = length history in
     let departure = option_map departure_said c.args.departure.now in
     let span = c.in-Some.span in
     let made = c.in_ok-frame.ensures in
     let marked = c.in_ok-frame-2.ensures in
-    let extent_is : c.extent_of-extent.result ≡ extent_of departure many span =
-    c.extent_of-extent.ensures ∙ ap (λ n. extent_of departure n span) (c.len-entries.ensures.value ∙ ap length c.entries.ensures) in
+    let extent_is : c.extent_of-extent.result ≡ extent_of departure many chart.fold span =
+    c.extent_of-extent.ensures ∙ ap (λ n. extent_of departure n chart.fold span) (c.len-entries.ensures.value ∙ ap length c.entries.ensures) in
     record {
       span = span;
       only = option_map (λ list. list.now) c.args.only;
@@ -25,13 +27,26 @@ returns g c =
       named = c.requires;
       rows = rw marked.rows made.rows;
       shows = record {
-        first = marked.first ∙ made.first ∙ ap first_drawn extent_is;
-        last = marked.last ∙ made.last ∙ ap last_drawn extent_is;
-        excerpt = marked.excerpt ∙ made.excerpt ∙ ap (λ (e : Extent). excerpt_of e many) extent_is;
-        places = marked.places ∙ made.places
-            ∙ ap (λ (e : Extent). places_of axis history (first_drawn e) (last_column e many)) extent_is;
-        behind = marked.behind ∙ made.behind
-            ∙ ap (λ (e : Extent). behind_of axis history (first_drawn e) (last_column e many)) extent_is;
-        mark = rw marked.last (rw (c.len-entries.ensures.value, c.entries.ensures) at marked.mark);
+        columns = rw marked.columns (subst (λ (e : Extent). HasColumns chart.axis e history c.in_ok-frame.frame.columns) extent_is
+            made.columns);
+        mark = subst (λ (e : Extent). Marks (departure_behind e.last many departure) c.in_ok-frame-2.frame.mark) extent_is
+            (rw (c.len-entries.ensures.value, c.entries.ensures) at marked.mark);
       };
     }
+
+-- no column is drawn, so no entry of the window has one
+pub returns-then-is_empty : goal.returns-then-is_empty
+returns-then-is_empty g c =
+    let history = c.args.kernel.now.machine.history in
+    let fold = c.args.chart.now.fold in
+    let departure = option_map departure_said c.args.departure.now in
+    let span = c.in-Some.span in
+    let asked = extent_of departure (length history) fold span in
+    let extent_is : c.extent_of-extent.result ≡ asked =
+    c.extent_of-extent.ensures ∙ ap (λ n. extent_of departure n fold span) (c.len-entries.ensures.value ∙ ap length c.entries.ensures) in
+    let drawn_is : c.in_ok-frame.frame.columns.drawn.items ≡ drawn asked history =
+    c.in_ok-frame.ensures.columns.drawn_is ∙ ap (λ (e : Extent). drawn e history) extent_is in
+    let none : length c.in_ok-frame.frame.columns.drawn.items ≡ 0 =
+    ap length (sym c.as_slice.ensures.value) ∙ eqb-true _ _ (sym c.is_empty.ensures ∙ c.if-is_empty.true) in
+    rw (sym c.in-Some.ensures)
+    (drawn_none asked.side (columns_of asked history) (ap length (sym drawn_is) ∙ none))

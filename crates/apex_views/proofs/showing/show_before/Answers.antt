@@ -39,10 +39,9 @@ returns-in-Listing g c = λ view asked.
 
 pub returns-in-Empty : goal.returns-in-Empty
 returns-in-Empty g c = λ view asked.
-    let run = c.in-Empty.field-1 in
-    let nowhere : IsEmptyIn view c.in-Empty.field-0 run.kernel.machine.history = rw c.in-Empty.is at asked in
-    rw (c.in-Empty.is, nowhere.is) (unshown run.kernel.table run.kernel.machine (departure_said c.args.departure)
-    (rw nowhere.window_is nowhere.none) (Keeps-refl _))
+    let run = c.in-Empty.field-2 in
+    let nowhere : IsEmptyIn view c.in-Empty.field-0 c.in-Empty.field-1 run.kernel.machine.history = rw c.in-Empty.is at asked in
+    rw (c.in-Empty.is, nowhere.is) (unshown run.kernel.table run.kernel.machine (departure_said c.args.departure) nowhere.none (Keeps-refl _))
 
 pub returns : goal.returns
 returns g c = λ view asked.

@@ -42,8 +42,9 @@ returns-in-Listing g c = λ view asked.
 pub returns-in-Empty : goal.returns-in-Empty
 returns-in-Empty g c = λ view asked.
     let run = c.in-Empty.run' in
-    let nowhere : IsEmptyIn view c.in-Empty.window run.kernel.machine.history = rw c.in-Empty.is at asked in
-    rw (c.in-Empty.is, c.empty_in.ensures) (empty run.kernel.table run.kernel.machine run.fault c.in-Empty.window nowhere (Keeps-refl _))
+    let nowhere : IsEmptyIn view c.in-Empty.window c.in-Empty.fold run.kernel.machine.history = rw c.in-Empty.is at asked in
+    rw (c.in-Empty.is, c.empty_in.ensures)
+    (empty run.kernel.table run.kernel.machine run.fault c.in-Empty.window c.in-Empty.fold nowhere (Keeps-refl _))
 
 pub returns : goal.returns
 returns g c = λ view asked.

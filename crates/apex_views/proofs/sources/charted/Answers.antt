@@ -1,4 +1,4 @@
--- The frame is for the window, or no entry is in it.
+-- The frame is for the window, or no entry in it has a column.
 use Rattle.std.proofs.Common.{refl}
 use Rattle.std.specs.Prelude.{option_map}
 use Rattle.apex_views.specs.Departures.{departure_said}
@@ -14,5 +14,6 @@ returns-in-None-clause-view c = record {
   chart = chart_said c.args.chart.now;
   is = refl;
   window_is = refl;
+  fold_is = refl;
   none = rw c.in-None.is at c.in_ok-found.ensures;
 }
