@@ -14,4 +14,4 @@ returns g c =
     let here : slice_index_or c.args.running.now core None ≡ chosen roster core =
     ap (λ (l : List (Option ℕ)). slice_index_or l core None) c.requires.running
     ∙ place_of (chosen roster) MOST_CORES core None bound in
-    rw (c.being_of.ensures, c.state_of.ensures, here, c.mode.ensures, c.requires.fields) refl
+    rw (c.being_of.ensures, c.state_of.ensures, here, c.mode.ensures, c.record-fields.ensures) refl
