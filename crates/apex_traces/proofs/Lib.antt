@@ -3,3 +3,4 @@ pub mod SlicesWhole
 pub mod TracksShown
 pub mod Arrowed
 pub mod Plain
+pub mod Copies

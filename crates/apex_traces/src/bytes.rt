@@ -61,9 +61,9 @@ impl<const ROOM: usize> Bytes<ROOM> {
         self.count += 1;
     }
 
-    /// Appends these bytes.
+    /// Appends these bytes by one copy.
     #[inline(always)]
-    pub(crate) fn extend(&mut self, more: &[u8])
+    fn extend_at_once(&mut self, more: &[u8])
         requires { array_vec_len self.old + length more.now ≤ ROOM }
         ensures items { self.new.items ≡ self.old.items ++ more.now }
         ensures len { array_vec_len self.new ≡ array_vec_len self.old + length more.now }
@@ -71,6 +71,40 @@ impl<const ROOM: usize> Bytes<ROOM> {
         let place = self.count as usize;
         self.cells[place..place + more.len()].copy_from_slice(more);
         self.count += more.len() as u32;
+    }
+
+    /// Appends these bytes by two copies of the same length, which overlap.
+    #[inline(always)]
+    fn extend_by_ends<const N: usize>(&mut self, more: &[u8])
+        requires covers { (N ≤ length more.now) × (length more.now ≤ N + N) }
+        requires room { array_vec_len self.old + length more.now ≤ ROOM }
+        ensures items { self.new.items ≡ self.old.items ++ more.now }
+        ensures len { array_vec_len self.new ≡ array_vec_len self.old + length more.now }
+    {
+        let (place, last) = (self.count as usize, more.len() - N);
+        self.cells[place..place + N].copy_from_slice(&more[..N]);
+        self.cells[place + last..place + more.len()].copy_from_slice(&more[last..]);
+        self.count += more.len() as u32;
+    }
+
+    /// Appends these bytes. A copy of a length that is not known is a call, so few bytes are two of
+    /// known length.
+    #[inline(always)]
+    pub(crate) fn extend(&mut self, more: &[u8])
+        requires { array_vec_len self.old + length more.now ≤ ROOM }
+        ensures items { self.new.items ≡ self.old.items ++ more.now }
+        ensures len { array_vec_len self.new ≡ array_vec_len self.old + length more.now }
+    {
+        let count = more.len();
+        if count < 4 || count > 32 {
+            self.extend_at_once(more);
+        } else if count <= 8 {
+            self.extend_by_ends::<4>(more);
+        } else if count <= 16 {
+            self.extend_by_ends::<8>(more);
+        } else {
+            self.extend_by_ends::<16>(more);
+        }
     }
 
     /// Appends the bytes of another buffer. It copies that whole buffer, whose size is known, and

@@ -1,5 +1,5 @@
 //! The processes and the counts after an entry, as a trace shows them.
-ghost use Rattle.std.specs.Prelude.{◌≡◌, ◌<◌, ◌≤◌, ◌++◌, IsTrue, length, map, slice_index_or, OnOk};
+ghost use Rattle.std.specs.Prelude.{◌≡◌, ◌⊎◌, ◌<◌, ◌≤◌, ◌++◌, ℕ, Some, IsTrue, false, true, length, map, slice_index_or, OnOk};
 ghost use Rattle.apex_types.specs.declared.limits.TheConstants.{MOST_CORES, MOST_PROCESSES};
 ghost use Rattle.apex_calls.specs.Lines.{IsPrintable};
 ghost use Rattle.apex_moments.specs.Counts.{HasCounts, counts_of};
@@ -74,20 +74,29 @@ pub(crate) fn track_by<S: Store>(
     )
 }
 
+/// Marks the place of the process that a core runs, if it runs one.
+#[inline(always)]
+fn mark(marks: &mut [bool; MOST_PROCESSES], running: &Option<ProcessId>)
+    ensures { (p : ℕ) → slice_index_or marks.new p false ≡ true
+        → (slice_index_or marks.old p false ≡ true) ⊎ (running.now ≡ Some p) }
+{
+    if let Some(process) = running {
+        if process.place() < MOST_PROCESSES {
+            marks[process.place()] = true;
+        }
+    }
+}
+
 /// Of the process at each place, whether a core runs it, given the process that each core runs.
 #[inline(always)]
 pub(crate) fn runners_of(running: &[Option<ProcessId>]) -> [bool; MOST_PROCESSES]
     ensures { AreRunners result running.now }
 {
-    let mut runners = [false; MOST_PROCESSES];
+    let mut marks = [false; MOST_PROCESSES];
     for process in running {
-        if let Some(process) = process {
-            if process.place() < MOST_PROCESSES {
-                runners[process.place()] = true;
-            }
-        }
+        mark(&mut marks, process);
     }
-    runners
+    marks
 }
 
 /// The track of a process still shows this, given whether a core runs the process, and the process
