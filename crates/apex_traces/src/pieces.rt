@@ -60,10 +60,7 @@ pub(crate) fn add<const ROOM: usize>(piece: &mut Bytes<ROOM>, more: &str)
 
 /// Adds a text that is known beforehand. It comes as a value, so that it is a part of the code.
 #[inline(always)]
-pub(crate) fn add_text<const N: usize, const ROOM: usize>(
-    piece: &mut Bytes<ROOM>,
-    text: [u8; N],
-)
+pub(crate) fn add_text<const N: usize, const ROOM: usize>(piece: &mut Bytes<ROOM>, text: [u8; N])
     requires { array_vec_len piece.old + N ≤ ROOM }
     ensures text { piece.new.items ≡ piece.old.items ++ text.entry }
     ensures len { array_vec_len piece.new ≡ array_vec_len piece.old + N }

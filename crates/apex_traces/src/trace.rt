@@ -23,9 +23,7 @@ use crate::calls::{Said, Span};
 use crate::counters::put_first_counts;
 use crate::escapes::add_escaped;
 use crate::mutexes::{add_mutex_ends, put_mutex_names};
-use crate::pieces::{
-    ARROW, CALL, DIGITS, MARK, Piece, TRACK, add, add_number, add_text,
-};
+use crate::pieces::{ARROW, CALL, DIGITS, MARK, Piece, TRACK, add, add_number, add_text};
 use crate::stamps::{FRONT, TIMED, Timed, add_begin_front, add_end_front, add_stamp};
 use crate::tracks::{Tracks, is_still, runners_of, track_at, track_by};
 use apex_configs::Table;

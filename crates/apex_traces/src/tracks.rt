@@ -16,9 +16,7 @@ use crate::stamps::Timed;
 use crate::trace::{add_call, add_notices, add_processes, add_runs};
 use apex_configs::Table;
 use apex_dispatch::{Kernel, Objects};
-use apex_moments::{
-    CORES, Counts, counts_of, put_bytes, running_of, state_of,
-};
+use apex_moments::{CORES, Counts, counts_of, put_bytes, running_of, state_of};
 use apex_store::Store;
 use apex_types::{LentEntry, MOST_CORES, MOST_PROCESSES, ProcessId, State};
 use arrayvec::ArrayVec;
