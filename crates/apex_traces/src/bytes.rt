@@ -69,7 +69,8 @@ impl<const ROOM: usize> Bytes<ROOM> {
         ensures len { array_vec_len self.new ≡ array_vec_len self.old + length more.now }
     {
         let place = self.count as usize;
-        self.cells[place..place + more.len()].copy_from_slice(more);
+        let cells = &mut self.cells[..];
+        cells[place..place + more.len()].copy_from_slice(more);
         self.count += more.len() as u32;
     }
 
@@ -82,8 +83,9 @@ impl<const ROOM: usize> Bytes<ROOM> {
         ensures len { array_vec_len self.new ≡ array_vec_len self.old + length more.now }
     {
         let (place, last) = (self.count as usize, more.len() - N);
-        self.cells[place..place + N].copy_from_slice(&more[..N]);
-        self.cells[place + last..place + more.len()].copy_from_slice(&more[last..]);
+        let cells = &mut self.cells[..];
+        cells[place..place + N].copy_from_slice(&more[..N]);
+        cells[place + last..place + more.len()].copy_from_slice(&more[last..]);
         self.count += more.len() as u32;
     }
 
@@ -114,9 +116,11 @@ impl<const ROOM: usize> Bytes<ROOM> {
         requires { array_vec_len self.old + N ≤ ROOM }
         ensures items { self.new.items ≡ self.old.items ++ more.now.items }
         ensures len { array_vec_len self.new ≡ array_vec_len self.old + array_vec_len more.now }
+        ensures short { array_vec_len self.new ≤ array_vec_len self.old + N }
     {
         let place = self.count as usize;
-        self.cells[place..place + N].copy_from_slice(&more.cells);
+        let cells = &mut self.cells[..];
+        cells[place..place + N].copy_from_slice(&more.cells);
         self.count += more.count;
     }
 }

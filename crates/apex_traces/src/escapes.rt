@@ -1,6 +1,6 @@
 //! Texts in strings of JSON. Few of them have a byte that is escaped, so they are looked at several
 //! bytes at a time.
-ghost use Rattle.std.specs.Prelude.{◌≡◌, ◌+◌, ◌*◌, ◌<◌, ◌≤◌, ◌++◌, IsTrue, length};
+ghost use Rattle.std.specs.Prelude.{◌≡◌, ◌+◌, ◌*◌, ◌≤◌, [], ◌∷◌, ◌++◌, IsTrue, length};
 ghost use Rattle.apex_json.specs.Strings.{json_byte, json_text};
 ghost use Rattle.apex_json.specs.declared.strings.TheConstants.{MOST_ESCAPE};
 ghost use Rattle.apex_traces.specs.Escapes.{ArePlain};

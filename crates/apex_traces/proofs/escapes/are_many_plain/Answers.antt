@@ -13,7 +13,7 @@ loop-round-preserved c =
       last = λ plain. at.last (and_parts _ _ plain).0;
       front = λ plain.
           let parts = and_parts _ _ plain in
-          goes_on c.args.bytes.now (16 * round) 16 (16 * (round + 1)) (at.front parts.0) (c.is_plain_at-in-loop-round.ensures parts.1) (omega arith);
+          goes_on c.args.bytes.now (16 * round) 16 (16 * (round + 1)) (at.front parts.0) (c.is_plain_at-plain-in-loop-round.ensures parts.1) (omega arith);
     }
 
 pub returns : goal.returns
