@@ -63,7 +63,7 @@ impl<const ROOM: usize> Bytes<ROOM> {
 
     /// Appends these bytes by one copy.
     #[inline(always)]
-    fn extend_at_once(&mut self, more: &[u8])
+    pub(crate) fn extend(&mut self, more: &[u8])
         requires { array_vec_len self.old + length more.now ≤ ROOM }
         ensures items { self.new.items ≡ self.old.items ++ more.now }
         ensures len { array_vec_len self.new ≡ array_vec_len self.old + length more.now }
@@ -89,17 +89,17 @@ impl<const ROOM: usize> Bytes<ROOM> {
         self.count += more.len() as u32;
     }
 
-    /// Appends these bytes. A copy of a length that is not known is a call, so few bytes are two of
-    /// known length.
+    /// Appends these bytes, of which there are mostly few. A copy of a length that is not known is a
+    /// call, so few bytes are two copies of known length.
     #[inline(always)]
-    pub(crate) fn extend(&mut self, more: &[u8])
+    pub(crate) fn extend_by_few(&mut self, more: &[u8])
         requires { array_vec_len self.old + length more.now ≤ ROOM }
         ensures items { self.new.items ≡ self.old.items ++ more.now }
         ensures len { array_vec_len self.new ≡ array_vec_len self.old + length more.now }
     {
         let count = more.len();
         if count < 4 || count > 32 {
-            self.extend_at_once(more);
+            self.extend(more);
         } else if count <= 8 {
             self.extend_by_ends::<4>(more);
         } else if count <= 16 {

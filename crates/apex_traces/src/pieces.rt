@@ -45,7 +45,7 @@ pub(crate) fn add_bytes<const ROOM: usize>(piece: &mut Bytes<ROOM>, more: &[u8])
     ensures text { piece.new.items ≡ piece.old.items ++ more.now }
     ensures len { array_vec_len piece.new ≡ array_vec_len piece.old + length more.now }
 {
-    piece.extend(more);
+    piece.extend_by_few(more);
 }
 
 /// Adds this text.
@@ -65,7 +65,7 @@ pub(crate) fn add_text<const N: usize, const ROOM: usize>(piece: &mut Bytes<ROOM
     ensures text { piece.new.items ≡ piece.old.items ++ text.entry }
     ensures len { array_vec_len piece.new ≡ array_vec_len piece.old + N }
 {
-    add_bytes(piece, &text);
+    piece.extend(&text);
 }
 
 /// Adds a digit.
@@ -89,7 +89,7 @@ fn add_pair<const ROOM: usize>(piece: &mut Bytes<ROOM>, number: u8)
         ++ (48 + number / 10) ∷ (48 + number % 10) ∷ [] }
     ensures len { array_vec_len piece.new ≡ array_vec_len piece.old + 2 }
 {
-    add_bytes(piece, &[b'0' + number / 10, b'0' + number % 10]);
+    add_text(piece, [b'0' + number / 10, b'0' + number % 10]);
 }
 
 // A number of at most two digits, as most tracks have.
