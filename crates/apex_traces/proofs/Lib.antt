@@ -2,3 +2,5 @@ pub mod Counted
 pub mod SlicesWhole
 pub mod TracksShown
 pub mod Arrowed
+pub mod Plain
+pub mod Copies

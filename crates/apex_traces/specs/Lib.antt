@@ -1,3 +1,4 @@
+pub mod Escapes
 pub mod Times
 pub mod Counters
 pub mod Beings

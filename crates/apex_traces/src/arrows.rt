@@ -9,8 +9,8 @@ ghost use Rattle.apex_traces.specs.declared.pieces.TheConstants.{ARROW, PIECE_RO
 ghost use Rattle.apex_types.specs.declared.limits.TheConstants.{MOST_NOTICES};
 
 use crate::calls::add_caller;
-use crate::pieces::{ARROW, DIGITS, Piece, add, add_bytes, add_number, add_text};
-use crate::stamps::Timed;
+use crate::pieces::{ARROW, DIGITS, Piece, add, add_number, add_text};
+use crate::stamps::{Timed, add_stamp};
 use apex_moments::notice_word;
 use apex_store::Store;
 use apex_types::{Caller, MOST_NOTICES, Notice, ProcessId};
@@ -45,7 +45,7 @@ fn add_tail(piece: &mut Piece, caller: &Caller, begun: &Timed, id: u64, word: &s
 {
     add_text(piece, *b",\n{\"ph\":\"s\",");
     add_caller(piece, caller);
-    add_bytes(piece, begun.text());
+    add_stamp(piece, begun);
     add_back(piece, id, word);
 }
 
@@ -61,7 +61,7 @@ fn add_head(piece: &mut Piece, time: u64, stamp: &Timed, process: ProcessId, id:
 {
     add_text(piece, *b",\n{\"ph\":\"f\",\"bp\":\"e\",\"pid\":2,\"tid\":");
     add_number(piece, u64::from(process.number()));
-    add_bytes(piece, stamp.text());
+    add_stamp(piece, stamp);
     add_back(piece, id, word);
 }
 

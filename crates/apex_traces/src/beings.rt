@@ -7,7 +7,8 @@ ghost use Rattle.apex_traces.specs.declared.beings.TheConstants.{BEING_ROOM, FRO
 ghost use Rattle.apex_traces.specs.declared.beings.Being.TheVariants as beings;
 ghost use Rattle.apex_traces.specs.declared.pieces.TheConstants.{PIECE_ROOM};
 
-use crate::pieces::{Piece, add, add_escaped, add_text};
+use crate::escapes::add_escaped;
+use crate::pieces::{Piece, add, add_text};
 use apex_configs::Table;
 use apex_json::MOST_ESCAPE;
 use apex_machine::Wait;
@@ -217,6 +218,7 @@ fn add_object_wait(piece: &mut Piece, table: &Table, being: &Being)
 }
 
 /// Adds the name of a slice; that of a dormant process has no byte.
+#[inline(always)]
 pub(crate) fn add_being_name(piece: &mut Piece, table: &Table, being: &Being)
     requires { array_vec_len piece.old + BEING_ROOM ≤ PIECE_ROOM }
     ensures text { piece.new.items ≡ piece.old.items ++ being_name table.now being.now }

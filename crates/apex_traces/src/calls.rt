@@ -8,8 +8,9 @@ ghost use Rattle.apex_traces.specs.Calls.{call_of, caller_text, is_idle, lasting
 ghost use Rattle.apex_traces.specs.declared.calls.TheConstants.{CALLER, LASTING, REPLY, SAID};
 ghost use Rattle.apex_traces.specs.declared.pieces.TheConstants.{CALL, PIECE_ROOM};
 
-use crate::pieces::{CALL, DIGITS, Piece, add_bytes, add_escaped, add_number, add_text};
-use crate::stamps::{TIMED, Timed};
+use crate::escapes::add_escaped;
+use crate::pieces::{CALL, DIGITS, Piece, add_number, add_text};
+use crate::stamps::{TIMED, Timed, add_stamp};
 use crate::times::{TIME_ROOM, add_time};
 use apex_configs::Table;
 use apex_history::{Lines, NextSteps, put_call_of, put_reply_of};
@@ -182,7 +183,7 @@ fn add_lasting(piece: &mut Piece, caller: &Caller, begun: &Timed, duration: u64)
 {
     add_text(piece, *b",\n{\"ph\":\"X\",");
     add_caller(piece, caller);
-    add_bytes(piece, begun.text());
+    add_stamp(piece, begun);
     add_text(piece, *b",\"dur\":");
     add_time(piece, duration);
 }

@@ -7,9 +7,10 @@ ghost use Rattle.apex_moments.specs.Counts.{counts_in, no_counts, object_count};
 ghost use Rattle.apex_traces.specs.declared.pieces.TheConstants.{COUNTER, PIECE_ROOM};
 
 use crate::changes::count_at;
+use crate::escapes::add_escaped;
 use crate::names::{back, front, object_name};
-use crate::pieces::{COUNTER, Piece, add, add_bytes, add_escaped, add_number, add_text};
-use crate::stamps::Timed;
+use crate::pieces::{COUNTER, Piece, add, add_number, add_text};
+use crate::stamps::{Timed, add_stamp};
 use apex_configs::Table;
 use apex_dispatch::Objects;
 use apex_moments::{Counts, Kind};
@@ -27,7 +28,7 @@ fn add_count(piece: &mut Piece, time: u64, stamp: &Timed, kind: Kind, name: &[u8
     ensures short { array_vec_len piece.new ≤ array_vec_len piece.old + COUNTER }
 {
     add_text(piece, *b",\n{\"ph\":\"C\",\"pid\":3");
-    add_bytes(piece, stamp.text());
+    add_stamp(piece, stamp);
     add(piece, front(kind));
     add_escaped(piece, name);
     add(piece, back(kind));

@@ -5,9 +5,11 @@
 
 mod arrows;
 mod beings;
+mod bytes;
 mod calls;
 mod changes;
 mod counters;
+mod escapes;
 mod mutexes;
 mod names;
 mod pieces;

@@ -9,7 +9,8 @@ ghost use Rattle.apex_traces.specs.Trace as trace;
 ghost use Rattle.apex_traces.specs.declared.pieces.TheConstants.{PIECE_ROOM, TRACK};
 ghost use Rattle.apex_traces.specs.declared.trace.TheConstants.{BEGIN, NAME};
 
-use crate::pieces::{Piece, TRACK, add_escaped, add_text};
+use crate::escapes::add_escaped;
+use crate::pieces::{Piece, TRACK, add_text};
 use crate::stamps::Timed;
 use crate::trace::{BEGIN, NAME, Spot, add_begin, add_ended, is_same_process, mutex_spot};
 use apex_configs::Table;

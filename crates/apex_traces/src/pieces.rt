@@ -1,14 +1,13 @@
 //! The pieces of a trace: what an entry changes is put together in a buffer of fixed room, and goes to
 //! the trace's text at once.
-ghost use Rattle.std.specs.Prelude.{◌≡◌, ◌+◌, ◌*◌, ◌/◌, ◌%◌, ◌<◌, ◌≤◌, [], ◌∷◌, ◌++◌, IsTrue, decimal, length};
-ghost use Rattle.apex_json.specs.Strings.{json_byte, json_text};
+ghost use Rattle.std.specs.Prelude.{◌≡◌, ◌+◌, ◌*◌, ◌/◌, ◌%◌, ◌<◌, ◌≤◌, [], ◌∷◌, ◌++◌, decimal, length};
 ghost use Rattle.apex_json.specs.declared.strings.TheConstants.{MOST_ESCAPE};
 ghost use Rattle.arrayvec.specs.ArrayVec.{array_vec_len};
 ghost use Rattle.apex_traces.specs.declared.pieces.TheConstants.{DIGITS};
 
-use apex_json::{MOST_ESCAPE, add_json};
+use crate::bytes::Bytes;
+use apex_json::MOST_ESCAPE;
 use apex_types::{MOST_CORES, MOST_LINE, MOST_NOTICES, MOST_OBJECTS, MOST_PROCESSES};
-use arrayvec::ArrayVec;
 use itoa::Buffer;
 
 /// The most digits of a number.
@@ -37,23 +36,21 @@ pub(crate) const PIECE_ROOM: usize = CALL
     + (MARK + 2 * ARROW) * MOST_NOTICES;
 
 /// The changes by an entry.
-pub(crate) type Piece = ArrayVec<u8, PIECE_ROOM>;
+pub(crate) type Piece = Bytes<PIECE_ROOM>;
 
 /// Adds these bytes.
 #[inline(always)]
-pub(crate) fn add_bytes<const ROOM: usize>(piece: &mut ArrayVec<u8, ROOM>, more: &[u8])
+pub(crate) fn add_bytes<const ROOM: usize>(piece: &mut Bytes<ROOM>, more: &[u8])
     requires { array_vec_len piece.old + length more.now ≤ ROOM }
     ensures text { piece.new.items ≡ piece.old.items ++ more.now }
     ensures len { array_vec_len piece.new ≡ array_vec_len piece.old + length more.now }
 {
-    let taken = piece.try_extend_from_slice(more);
-    let fits = taken.is_ok();
-    prove!(fits);
+    piece.extend_by_few(more);
 }
 
 /// Adds this text.
 #[inline(always)]
-pub(crate) fn add<const ROOM: usize>(piece: &mut ArrayVec<u8, ROOM>, more: &str)
+pub(crate) fn add<const ROOM: usize>(piece: &mut Bytes<ROOM>, more: &str)
     requires { array_vec_len piece.old + length more.now ≤ ROOM }
     ensures text { piece.new.items ≡ piece.old.items ++ more.now }
     ensures len { array_vec_len piece.new ≡ array_vec_len piece.old + length more.now }
@@ -63,21 +60,18 @@ pub(crate) fn add<const ROOM: usize>(piece: &mut ArrayVec<u8, ROOM>, more: &str)
 
 /// Adds a text that is known beforehand. It comes as a value, so that it is a part of the code.
 #[inline(always)]
-pub(crate) fn add_text<const N: usize, const ROOM: usize>(
-    piece: &mut ArrayVec<u8, ROOM>,
-    text: [u8; N],
-)
+pub(crate) fn add_text<const N: usize, const ROOM: usize>(piece: &mut Bytes<ROOM>, text: [u8; N])
     requires { array_vec_len piece.old + N ≤ ROOM }
     ensures text { piece.new.items ≡ piece.old.items ++ text.entry }
     ensures len { array_vec_len piece.new ≡ array_vec_len piece.old + N }
 {
-    add_bytes(piece, &text);
+    piece.extend(&text);
 }
 
 /// Adds a digit.
 #[inline(always)]
 #[tactic(auto, using(std::proofs::lemmas::Fmt::decimal_digit))]
-pub(crate) fn add_digit<const ROOM: usize>(piece: &mut ArrayVec<u8, ROOM>, digit: u8)
+pub(crate) fn add_digit<const ROOM: usize>(piece: &mut Bytes<ROOM>, digit: u8)
     requires digit { digit < 10 }
     requires room { array_vec_len piece.old + 1 ≤ ROOM }
     ensures text { piece.new.items ≡ piece.old.items ++ decimal digit }
@@ -88,20 +82,20 @@ pub(crate) fn add_digit<const ROOM: usize>(piece: &mut ArrayVec<u8, ROOM>, digit
 
 /// The two digits of a number below 100, of which the first one may be a zero.
 #[inline(always)]
-fn add_pair<const ROOM: usize>(piece: &mut ArrayVec<u8, ROOM>, number: u8)
+fn add_pair<const ROOM: usize>(piece: &mut Bytes<ROOM>, number: u8)
     requires digits { number < 100 }
     requires room { array_vec_len piece.old + 2 ≤ ROOM }
     ensures text { piece.new.items ≡ piece.old.items
         ++ (48 + number / 10) ∷ (48 + number % 10) ∷ [] }
     ensures len { array_vec_len piece.new ≡ array_vec_len piece.old + 2 }
 {
-    add_bytes(piece, &[b'0' + number / 10, b'0' + number % 10]);
+    add_text(piece, [b'0' + number / 10, b'0' + number % 10]);
 }
 
 // A number of at most two digits, as most tracks have.
 #[inline(always)]
 #[tactic(auto, using(apex_history::proofs::Digits::two_digits))]
-fn add_below_hundred<const ROOM: usize>(piece: &mut ArrayVec<u8, ROOM>, number: u8)
+fn add_below_hundred<const ROOM: usize>(piece: &mut Bytes<ROOM>, number: u8)
     requires digits { number < 100 }
     requires room { array_vec_len piece.old + 2 ≤ ROOM }
     ensures text { piece.new.items ≡ piece.old.items ++ decimal number }
@@ -117,7 +111,7 @@ fn add_below_hundred<const ROOM: usize>(piece: &mut ArrayVec<u8, ROOM>, number: 
 // A number of three or four digits.
 #[inline(always)]
 #[tactic(auto, using(apex_history::proofs::Digits::pair_behind))]
-fn add_hundreds<const ROOM: usize>(piece: &mut ArrayVec<u8, ROOM>, number: u64)
+fn add_hundreds<const ROOM: usize>(piece: &mut Bytes<ROOM>, number: u64)
     requires digits { (100 ≤ number) × (number < 10000) }
     requires room { array_vec_len piece.old + 4 ≤ ROOM }
     ensures text { piece.new.items ≡ piece.old.items ++ decimal number }
@@ -129,7 +123,7 @@ fn add_hundreds<const ROOM: usize>(piece: &mut ArrayVec<u8, ROOM>, number: u64)
 
 // A number of at most four digits.
 #[inline(always)]
-fn add_below_ten_thousand<const ROOM: usize>(piece: &mut ArrayVec<u8, ROOM>, number: u64)
+fn add_below_ten_thousand<const ROOM: usize>(piece: &mut Bytes<ROOM>, number: u64)
     requires digits { number < 10000 }
     requires room { array_vec_len piece.old + 4 ≤ ROOM }
     ensures text { piece.new.items ≡ piece.old.items ++ decimal number }
@@ -145,7 +139,7 @@ fn add_below_ten_thousand<const ROOM: usize>(piece: &mut ArrayVec<u8, ROOM>, num
 // A number of three to six digits, as most entries and times of a long history have.
 #[inline(never)]
 #[tactic(auto, using(apex_history::proofs::Digits::pair_behind))]
-fn add_thousands<const ROOM: usize>(piece: &mut ArrayVec<u8, ROOM>, number: u64)
+fn add_thousands<const ROOM: usize>(piece: &mut Bytes<ROOM>, number: u64)
     requires digits { (100 ≤ number) × (number < 1000000) }
     requires room { array_vec_len piece.old + 6 ≤ ROOM }
     ensures text { piece.new.items ≡ piece.old.items ++ decimal number }
@@ -158,7 +152,7 @@ fn add_thousands<const ROOM: usize>(piece: &mut ArrayVec<u8, ROOM>, number: u64)
 // A number of seven or eight digits, as most arrows of a long history have.
 #[inline(never)]
 #[tactic(auto, using(apex_history::proofs::Digits::pair_behind))]
-fn add_millions<const ROOM: usize>(piece: &mut ArrayVec<u8, ROOM>, number: u64)
+fn add_millions<const ROOM: usize>(piece: &mut Bytes<ROOM>, number: u64)
     requires digits { (1000000 ≤ number) × (number < 100000000) }
     requires room { array_vec_len piece.old + 8 ≤ ROOM }
     ensures text { piece.new.items ≡ piece.old.items ++ decimal number }
@@ -170,7 +164,7 @@ fn add_millions<const ROOM: usize>(piece: &mut ArrayVec<u8, ROOM>, number: u64)
 
 // A number of any length, in a function of its own so that the shorter cases are inlined.
 #[inline(never)]
-fn add_digits<const ROOM: usize>(piece: &mut ArrayVec<u8, ROOM>, number: u64)
+fn add_digits<const ROOM: usize>(piece: &mut Bytes<ROOM>, number: u64)
     requires { array_vec_len piece.old + DIGITS ≤ ROOM }
     ensures text { piece.new.items ≡ piece.old.items ++ decimal number }
     ensures short { array_vec_len piece.new ≤ array_vec_len piece.old + DIGITS }
@@ -181,7 +175,7 @@ fn add_digits<const ROOM: usize>(piece: &mut ArrayVec<u8, ROOM>, number: u64)
 
 /// Adds the number in decimal digits.
 #[inline(always)]
-pub(crate) fn add_number<const ROOM: usize>(piece: &mut ArrayVec<u8, ROOM>, number: u64)
+pub(crate) fn add_number<const ROOM: usize>(piece: &mut Bytes<ROOM>, number: u64)
     requires { array_vec_len piece.old + DIGITS ≤ ROOM }
     ensures text { piece.new.items ≡ piece.old.items ++ decimal number }
     ensures short { array_vec_len piece.new ≤ array_vec_len piece.old + DIGITS }
@@ -194,41 +188,5 @@ pub(crate) fn add_number<const ROOM: usize>(piece: &mut ArrayVec<u8, ROOM>, numb
         add_millions(piece, number);
     } else {
         add_digits(piece, number);
-    }
-}
-
-/// The byte is its own text in a string of JSON.
-#[inline(always)]
-fn is_plain_byte(byte: u8) -> bool
-    ensures { IsTrue result → json_byte byte ≡ byte ∷ [] }
-{
-    byte >= b' ' && byte != b'"' && byte != b'\\'
-}
-
-/// The bytes are their own text in a string of JSON. It looks at all of them, which takes fewer
-/// instructions than a stop.
-#[inline(always)]
-fn is_plain(bytes: &[u8]) -> bool
-    ensures { IsTrue result → json_text bytes.now ≡ bytes.now }
-{
-    let mut plain = true;
-    for byte in bytes {
-        plain &= is_plain_byte(*byte);
-    }
-    plain
-}
-
-/// Adds the bytes of a string of JSON, between its quotes.
-#[inline(always)]
-pub(crate) fn add_escaped<const ROOM: usize>(piece: &mut ArrayVec<u8, ROOM>, bytes: &[u8])
-    requires { array_vec_len piece.old + MOST_ESCAPE * length bytes.now ≤ ROOM }
-    ensures text { piece.new.items ≡ piece.old.items ++ json_text bytes.now }
-    ensures short { array_vec_len piece.new
-        ≤ array_vec_len piece.old + MOST_ESCAPE * length bytes.now }
-{
-    if is_plain(bytes) {
-        add_bytes(piece, bytes);
-    } else {
-        add_json(piece, bytes);
     }
 }

@@ -6,9 +6,9 @@ ghost use Rattle.apex_traces.specs.Times.{time_back};
 ghost use Rattle.apex_traces.specs.declared.pieces.TheConstants.{PIECE_ROOM};
 ghost use Rattle.apex_traces.specs.declared.stamps.TheConstants.{FRONT, TIMED};
 
+use crate::bytes::Bytes;
 use crate::pieces::{Piece, add_text};
 use crate::times::{TIME_ROOM, add_time};
-use arrayvec::ArrayVec;
 use std::marker::Model;
 
 /// The bytes before the number of a track.
@@ -22,7 +22,7 @@ pub(crate) const TIMED: usize = TIME_ROOM + 6;
 pub(crate) struct Timed {
     /// In nanoseconds.
     time: u64,
-    text: ArrayVec<u8, TIMED>,
+    text: Bytes<TIMED>,
 }
 
 impl Model for Timed {
@@ -41,7 +41,7 @@ impl Timed {
     pub(crate) fn new(time: u64) -> Timed
         ensures { result ≡ time }
     {
-        let mut text = ArrayVec::new();
+        let mut text = Bytes::new();
         add_text(&mut text, *b",\"ts\":");
         add_time(&mut text, time);
         Timed { time, text }
@@ -56,15 +56,16 @@ impl Timed {
             *self = Timed::new(time);
         }
     }
+}
 
-    /// Its text, as it is behind the number of a track.
-    #[inline(always)]
-    pub(crate) fn text(&self) -> &[u8]
-        ensures value { result.now ≡ time_back self.now }
-        ensures short { length result.now ≤ TIMED }
-    {
-        self.text.as_slice()
-    }
+/// Adds a time as it is behind the number of a track.
+#[inline(always)]
+pub(crate) fn add_stamp(piece: &mut Piece, stamp: &Timed)
+    requires { array_vec_len piece.old + TIMED ≤ PIECE_ROOM }
+    ensures text { piece.new.items ≡ piece.old.items ++ time_back stamp.now }
+    ensures short { array_vec_len piece.new ≤ array_vec_len piece.old + TIMED }
+{
+    piece.append(&stamp.text);
 }
 
 /// Adds what is before the number of a track of a group at the end of a slice.

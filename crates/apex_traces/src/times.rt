@@ -4,8 +4,8 @@ ghost use Rattle.arrayvec.specs.ArrayVec.{array_vec_len};
 ghost use Rattle.apex_traces.specs.Times.{fraction_text, time_text};
 ghost use Rattle.apex_traces.specs.declared.times.TheConstants.{TIME_ROOM};
 
+use crate::bytes::Bytes;
 use crate::pieces::{DIGITS, add_digit, add_number, add_text};
-use arrayvec::ArrayVec;
 
 /// The most bytes of the text of a time: its microseconds, a point and three digits.
 pub(crate) const TIME_ROOM: usize = DIGITS + 4;
@@ -13,7 +13,7 @@ pub(crate) const TIME_ROOM: usize = DIGITS + 4;
 /// Adds the thousandths beyond the units, if there are any, without zeros at the end.
 #[inline(always)]
 #[tactic(auto, using(std::proofs::Common::append_assoc))]
-fn add_fraction<const ROOM: usize>(text: &mut ArrayVec<u8, ROOM>, thousandths: u16)
+fn add_fraction<const ROOM: usize>(text: &mut Bytes<ROOM>, thousandths: u16)
     requires digits { thousandths < 1000 }
     requires room { array_vec_len text.old + 4 ≤ ROOM }
     ensures text { text.new.items ≡ text.old.items ++ fraction_text thousandths }
@@ -36,7 +36,7 @@ fn add_fraction<const ROOM: usize>(text: &mut ArrayVec<u8, ROOM>, thousandths: u
 /// Adds the text of a time in nanoseconds: microseconds, and up to three digits behind a point.
 #[inline(always)]
 #[tactic(auto, using(std::proofs::Common::append_assoc), unfolding(crate::specs::Times::time_text))]
-pub(crate) fn add_time<const ROOM: usize>(text: &mut ArrayVec<u8, ROOM>, time: u64)
+pub(crate) fn add_time<const ROOM: usize>(text: &mut Bytes<ROOM>, time: u64)
     requires { array_vec_len text.old + TIME_ROOM ≤ ROOM }
     ensures text { text.new.items ≡ text.old.items ++ time_text time }
     ensures short { array_vec_len text.new ≤ array_vec_len text.old + TIME_ROOM }

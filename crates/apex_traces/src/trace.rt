@@ -21,12 +21,11 @@ use crate::arrows::{add_heads, add_tails};
 use crate::beings::{BEING_ROOM, Being, add_being_name, is_begun, is_same_being};
 use crate::calls::{Said, Span};
 use crate::counters::put_first_counts;
+use crate::escapes::add_escaped;
 use crate::mutexes::{add_mutex_ends, put_mutex_names};
-use crate::pieces::{
-    ARROW, CALL, DIGITS, MARK, Piece, TRACK, add, add_bytes, add_escaped, add_number, add_text,
-};
-use crate::stamps::{FRONT, TIMED, Timed, add_begin_front, add_end_front};
-use crate::tracks::{Tracks, is_still, track_at, track_by};
+use crate::pieces::{ARROW, CALL, DIGITS, MARK, Piece, TRACK, add, add_number, add_text};
+use crate::stamps::{FRONT, TIMED, Timed, add_begin_front, add_end_front, add_stamp};
+use crate::tracks::{Tracks, is_still, runners_of, track_at, track_by};
 use apex_configs::Table;
 use apex_dispatch::Kernel;
 use apex_json::MOST_ESCAPE;
@@ -166,7 +165,7 @@ fn add_end(piece: &mut Piece, spot: Spot, stamp: &Timed)
 {
     add_end_front(piece, spot.group);
     add_number(piece, u64::from(spot.track));
-    add_bytes(piece, stamp.text());
+    add_stamp(piece, stamp);
     add_text(piece, *b"}");
 }
 
@@ -180,7 +179,7 @@ pub(crate) fn add_begin(piece: &mut Piece, spot: Spot, stamp: &Timed)
 {
     add_begin_front(piece, spot.group);
     add_number(piece, u64::from(spot.track));
-    add_bytes(piece, stamp.text());
+    add_stamp(piece, stamp);
     add_text(piece, *b",\"name\":\"");
 }
 
@@ -473,12 +472,12 @@ pub(crate) fn add_processes<S: Store>(
         ≡ of_places (track_of (S.roster store.now)) (length (S.roster store.now).records) }
     ensures short { array_vec_len piece.new ≤ array_vec_len piece.old + TRACK * MOST_PROCESSES }
 {
+    let runners = runners_of(running);
     for place in 0..store.process_count() {
         let process = ProcessId::at(place as u8);
-        let fields = store.record(process);
         let before = tracks[place];
-        if !is_still(store, process, fields, running, &before) {
-            let track = track_by(store, process, fields, running);
+        if !is_still(store, process, runners[place], running, &before) {
+            let track = track_by(store, process, running);
             add_process(piece, table, process, time, stamp, &before, &track);
             tracks[place] = track;
         }
@@ -522,7 +521,7 @@ fn add_mark(
 {
     add_text(piece, *b",\n{\"ph\":\"i\",\"pid\":2,\"tid\":");
     add_number(piece, u64::from(process.number()));
-    add_bytes(piece, stamp.text());
+    add_stamp(piece, stamp);
     add_text(piece, *b",\"name\":\"");
     add(piece, word);
     add(piece, detail);

@@ -18,7 +18,7 @@ returns-clause-text c =
     let end = codes "}}" in
     let text = c.args.piece.now.items in
     c.add_text-2.ensures.text ∙ ap (λ l. l ++ end) (six_behind text head (time_back c.args.time) front name back count _ _ _ _ _ _
-    c.add_text.ensures.text (rw (c.text.ensures.value ∙ ap time_back c.requires.stamp) at c.add_bytes.ensures.text)
+    c.add_text.ensures.text (rw (ap time_back c.requires.stamp) at c.add_stamp.ensures.text)
     (rw c.front.ensures.value at c.add.ensures.text) c.add_escaped.ensures.text
     (rw c.back.ensures.value at c.add-2.ensures.text) c.add_number.ensures.text)
     ∙ ap (λ l. (text ++ (l ++ front ++ name ++ back ++ count)) ++ end) (append_assoc head ts time)

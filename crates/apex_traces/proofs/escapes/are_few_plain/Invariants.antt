@@ -2,7 +2,7 @@
 use Rattle.std.proofs.Common.{◌≡◌, take}
 use Rattle.std.specs.Prelude.{IsTrue}
 use Rattle.apex_json.specs.Strings.{json_text}
-use Rattle.apex_traces.proofs.pieces.is_plain.Given as goal
+use Rattle.apex_traces.proofs.escapes.are_few_plain.Given as goal
 
 abbrev pub invariant-loop-byte : goal.invariant-loop-byte
 invariant-loop-byte l = record {

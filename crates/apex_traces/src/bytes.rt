@@ -1,0 +1,126 @@
+//! Bytes in a buffer of fixed room. A text of known length is copied by a few instructions, and one of
+//! any length by a call.
+ghost use Rattle.std.specs.Prelude.{◌≡◌, ◌+◌, ◌^◌, ◌<◌, ◌≤◌, [], ◌∷◌, ◌++◌, length};
+ghost use Rattle.arrayvec.specs.ArrayVec.{array_vec_len};
+
+use std::marker::Model;
+
+/// Bytes in a buffer of fixed room.
+#[derive(Drop)]
+pub(crate) struct Bytes<const ROOM: usize> {
+    /// The number of the bytes. It is before the cells, and narrower than their addresses: so a
+    /// compiler sees that no copy into the cells changes it.
+    count: u32,
+    cells: [u8; ROOM],
+}
+
+impl<const ROOM: usize> Model for Bytes<ROOM> {
+    ghost use Rattle.std.specs.Prelude.{◌≡◌, ◌^◌, ◌<◌, ◌≤◌, ℕ, length, take};
+    ghost use Rattle.arrayvec.specs.ArrayVec.{ArrayVec};
+
+    ghost Value = { ArrayVec ℕ };
+
+    ghost view = { λ b. record { items = take b.count b.cells } };
+
+    ghost invariant = { λ b. (b.count ≤ ROOM) × (length b.cells ≡ ROOM) × (ROOM < 2 ^ 32) };
+}
+
+impl<const ROOM: usize> Bytes<ROOM> {
+    pub(crate) fn new() -> Bytes<ROOM>
+        requires { ROOM < 2 ^ 32 }
+        ensures { result.items ≡ [] }
+    {
+        Bytes {
+            count: 0,
+            cells: [0; ROOM],
+        }
+    }
+
+    /// Forgets all bytes.
+    pub(crate) fn clear(&mut self)
+        ensures { self.new.items ≡ [] }
+    {
+        self.count = 0;
+    }
+
+    pub(crate) fn as_slice(&self) -> &[u8]
+        ensures value { result.now ≡ self.now.items }
+        ensures fits { length result.now ≤ ROOM }
+    {
+        &self.cells[..self.count as usize]
+    }
+
+    /// Appends a byte.
+    #[inline(always)]
+    pub(crate) fn push(&mut self, byte: u8)
+        requires { array_vec_len self.old < ROOM }
+        ensures items { self.new.items ≡ self.old.items ++ byte ∷ [] }
+        ensures len { array_vec_len self.new ≡ array_vec_len self.old + 1 }
+    {
+        self.cells[self.count as usize] = byte;
+        self.count += 1;
+    }
+
+    /// Appends these bytes by one copy.
+    #[inline(always)]
+    pub(crate) fn extend(&mut self, more: &[u8])
+        requires { array_vec_len self.old + length more.now ≤ ROOM }
+        ensures items { self.new.items ≡ self.old.items ++ more.now }
+        ensures len { array_vec_len self.new ≡ array_vec_len self.old + length more.now }
+    {
+        let place = self.count as usize;
+        let cells = &mut self.cells[..];
+        cells[place..place + more.len()].copy_from_slice(more);
+        self.count += more.len() as u32;
+    }
+
+    /// Appends these bytes by two copies of the same length, which overlap.
+    #[inline(always)]
+    fn extend_by_ends<const N: usize>(&mut self, more: &[u8])
+        requires covers { (N ≤ length more.now) × (length more.now ≤ N + N) }
+        requires room { array_vec_len self.old + length more.now ≤ ROOM }
+        ensures items { self.new.items ≡ self.old.items ++ more.now }
+        ensures len { array_vec_len self.new ≡ array_vec_len self.old + length more.now }
+    {
+        let (place, last) = (self.count as usize, more.len() - N);
+        let cells = &mut self.cells[..];
+        cells[place..place + N].copy_from_slice(&more[..N]);
+        cells[place + last..place + more.len()].copy_from_slice(&more[last..]);
+        self.count += more.len() as u32;
+    }
+
+    /// Appends these bytes, of which there are mostly few. A copy of a length that is not known is a
+    /// call, so few bytes are two copies of known length.
+    #[inline(always)]
+    pub(crate) fn extend_by_few(&mut self, more: &[u8])
+        requires { array_vec_len self.old + length more.now ≤ ROOM }
+        ensures items { self.new.items ≡ self.old.items ++ more.now }
+        ensures len { array_vec_len self.new ≡ array_vec_len self.old + length more.now }
+    {
+        let count = more.len();
+        if count < 4 || count > 32 {
+            self.extend(more);
+        } else if count <= 8 {
+            self.extend_by_ends::<4>(more);
+        } else if count <= 16 {
+            self.extend_by_ends::<8>(more);
+        } else {
+            self.extend_by_ends::<16>(more);
+        }
+    }
+
+    /// Appends the bytes of another buffer. It copies that whole buffer, whose size is known, and
+    /// keeps the bytes of it.
+    #[inline(always)]
+    pub(crate) fn append<const N: usize>(&mut self, more: &Bytes<N>)
+        requires { array_vec_len self.old + N ≤ ROOM }
+        ensures items { self.new.items ≡ self.old.items ++ more.now.items }
+        ensures len { array_vec_len self.new ≡ array_vec_len self.old + array_vec_len more.now }
+        ensures short { array_vec_len self.new ≤ array_vec_len self.old + N }
+    {
+        let place = self.count as usize;
+        let cells = &mut self.cells[..];
+        cells[place..place + N].copy_from_slice(&more.cells);
+        self.count += more.count;
+    }
+}
