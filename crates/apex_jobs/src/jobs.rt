@@ -16,10 +16,10 @@ use std::marker::{Send, Sync};
 use std::thread::Threads;
 
 /// A desk has at most this many states at once.
-const MOST_STATES: usize = 2048;
+const MOST_AT_DESK: usize = 2048;
 
 /// To expand fewer states than this takes less time than to begin a thread.
-const LEAST_STATES: usize = 32;
+const LEAST_AT_DESK: usize = 32;
 
 /// A level is cut into this many rounds if that gives each desk neither too many states nor too few.
 const ROUNDS: usize = 1;
@@ -38,7 +38,11 @@ fn states_ahead(states: usize, end: usize, limit: usize, desks: usize) -> usize
         return limit - end;
     }
     let left = states - end;
-    if left / LEAST_STATES < desks { 0 } else { left }
+    if left / LEAST_AT_DESK < desks {
+        0
+    } else {
+        left
+    }
 }
 
 /// The threads among which the states of a level are split.
@@ -132,8 +136,8 @@ impl<'r, R: Threads + Sync> Jobs<'r, R> {
         ensures within { result ≤ left }
     {
         let desks = self.jobs.max(1) as usize;
-        let least = LEAST_STATES.saturating_mul(desks);
-        let most = MOST_STATES.saturating_mul(desks);
+        let least = LEAST_AT_DESK.saturating_mul(desks);
+        let most = MOST_AT_DESK.saturating_mul(desks);
         (left / ROUNDS).max(least).min(most).min(left)
     }
 
@@ -170,7 +174,7 @@ impl<'r, R: Threads + Sync> Jobs<'r, R> {
             return Ok(Some(Stop::Done));
         };
         let Places { from, limit } = places;
-        if (limit - from) / LEAST_STATES < desks.len() {
+        if (limit - from) / LEAST_AT_DESK < desks.len() {
             return search.go_on_for(alloc, system, limit - from);
         }
         self.go_on_at_once(alloc, search, system, desks, places, watch)
@@ -211,16 +215,16 @@ impl<'r, R: Threads + Sync> Jobs<'r, R> {
     {
         let Places { from, mut limit } = places;
         let mut end = from + self.states_at_once(limit - from);
-        lay_out_all(system, search, desks, from, end)?;
+        lay_out_all(self.rt, alloc, system, search.states(), desks, from, end)?;
         let mut expansions = expand_all(self.rt, alloc, system, desks)?;
         loop {
             search.show(watch);
             let left = states_ahead(search.len(), end, limit, desks.len());
             if left == 0 {
-                return search.take(alloc, system, end, expansions.as_slice());
+                return search.take(self.rt, alloc, system, end, expansions.as_slice());
             }
             let next = end + self.states_at_once(left);
-            lay_out_all(system, search, desks, end, next)?;
+            lay_out_all(self.rt, alloc, system, search.states(), desks, end, next)?;
             let found = expansions.as_slice();
             let (stop, more) = take_and_expand(self.rt, alloc, system, search, end, found, desks)?;
             match stop {
