@@ -7,7 +7,7 @@ use Rattle.apex_states.specs.declared.halves.Side.TheVariants.{Left, Right}
 use Rattle.apex_states.specs.declared.halves.TheConstants.{DEPTH}
 use Rattle.apex_states.specs.declared.nodes.Nodes.{Nodes}
 use Rattle.apex_states.specs.Halves.{part_of, rest_of, words_at, IsHalf, IsNumber, StillHas}
-use Rattle.apex_states.specs.Nodes.{no_nodes, spread, words_of, IsExact, IsHeld, IsTree}
+use Rattle.apex_states.specs.Nodes.{no_nodes, spread, IsExact, IsHeld, IsTree}
 use Rattle.apex_states.proofs.Trees.{words_of-tree, IsHeld-refl, IsHeld-trans, IsTree-held, IsTree-same}
 
 take_front : (xs ys : List ℕ) → take (length xs) (xs ++ ys) ≡ xs
@@ -167,3 +167,7 @@ IsHalf-start part width half nodes nodes_are held exact wide words here tree =
 
 pub exact_start : (nodes : Nodes) (part : ℕ) → nodes ≡ no_nodes part 64 → IsExact nodes
 exact_start nodes part is = rw is (record { parts = λ i j k one other. cc; pairs = λ i j k one other. cc; one = refl })
+
+-- the number of words that were put before the rest
+pub IsNumber-put : (half new : Half) (number : ℕ) (k words : List ℕ) → length k ≡ half.width → new.width ≡ half.width → words ≡ k ++ rest_of half → rest_of new ≡ rest_of half → IsTree new.nodes DEPTH number words → IsNumber new number k
+IsNumber-put half new number k words long width words_are rest tree = record { long = long ∙ sym width; tree = subst (IsTree new.nodes DEPTH number) (words_are ∙ ap (λ r. k ++ r) (sym rest)) tree }

@@ -1,6 +1,6 @@
 -- States that were found, whose halves are numbered one after the other.
 use Rattle.std.proofs.Common.{◌≡◌, ℕ, ◌+◌, ◌/◌, ◌%◌, ◌^◌, List, [], ◌∷◌, ◌++◌, length, length-append, Some, refl, sym, ap, ◌∙◌, subst, inl, inr, arith}
-use Rattle.std.proofs.lemmas.Option.{same_Some, slice_get_within}
+use Rattle.std.proofs.lemmas.Option.{same_Some}
 use Rattle.std.specs.List.{slice_get}
 use Rattle.apex_states.specs.declared.halves.Half.{Half}
 use Rattle.apex_states.specs.declared.halves.Side.{Side}
@@ -28,6 +28,12 @@ parent_number old new rows place pair number side valid has there side_is number
     same_head : (a b : ℕ) → a ∷ [] ≡ b ∷ [] → a ≡ b
     same_head a b same = cc
 
+-- the number on the same side of a half that still has it
+number_still : (old new half : Half) (number : ℕ) (k : List ℕ) → half.side ≡ old.side → half.width ≡ old.width → IsNumber new number (part_of old.side old.width k) → IsNumber new number (part_of half.side half.width k)
+number_still old new half number k side width is =
+    let Part : Side → ℕ → Type 0 = λ s n. IsNumber new number (part_of s n k) in
+    subst (λ s. Part s half.width) (sym side) (subst (Part old.side) (sym width) is)
+
 -- the states before `place` are numbered
 pub record IsNumbering (found : Found) (old half : Half) (numbers : List ℕ) (place : ℕ) : Type 0 where
   pub is_half : IsHalf half
@@ -47,7 +53,7 @@ pub IsNumbering-next : (found : Found) (old half restored new : Half) (numbers :
 IsNumbering-next found old half restored new numbers place number k here long first second is_half number_is so_far =
     let has = StillHas-trans half restored new first second in
     let Numbered : ℕ → List ℕ → Type 0 = λ n l. (length l ≡ found.width) × IsNumber new n (part_of new.side new.width l) in
-    let last : Numbered number k = (long, rw (second.side, second.width) number_is) in
+    let last : Numbered number k = (long, number_still restored new new number k second.side second.width number_is) in
     record {
       is_half = is_half;
       has = StillHas-trans old half new so_far.has has;
@@ -56,7 +62,7 @@ IsNumbering-next found old half restored new numbers place number k here long fi
         | inl before ↦
             let was = so_far.each at other l before is in
             let held : IsNumber new other (part_of half.side half.width l) = IsNumber-held half new other (part_of half.side half.width l) has was.1 in
-            (was.0, rw (has.side, has.width) held)
+            (was.0, number_still half new new other l has.side has.width held)
         | inr (at_is, same) ↦
             let e : at ≡ place = omega (arith, at_is, so_far.count) in
             let there' : slice_get found.states place ≡ Some l = ap (slice_get found.states) (sym e) ∙ is in

@@ -1,23 +1,32 @@
 -- States that were found and whose roots are kept.
-use Rattle.std.proofs.Common.{◌≡◌, ℕ, zero, suc, ◌<◌, Bool, true, false, List, [], ◌∷◌, length, map, Some, refl, sym, ap, ◌∙◌, subst, arith, get_or, inl, inr}
+use Rattle.std.proofs.Common.{◌≡◌, ℕ, zero, suc, ◌+◌, ◌<◌, Bool, true, false, List, [], ◌∷◌, length, map, Some, refl, sym, ap, ◌∙◌, subst, arith, get_or, inl, inr}
 use Rattle.std.proofs.lemmas.Bool.{cases_lt}
 use Rattle.std.proofs.lemmas.List.{length-map}
 use Rattle.std.proofs.lemmas.Option.{same_Some, slice_get-get_or, slice_get-map, slice_get_within}
 use Rattle.std.specs.List.{slice_get}
 use Rattle.std.specs.Option.{option_map}
 use Rattle.apex_states.specs.declared.halves.Half.{Half}
-use Rattle.apex_states.specs.Finds.{AreKept, AreThere, Found, GoesOnWith}
+use Rattle.apex_states.specs.declared.states.Origin.{Origin}
+use Rattle.apex_states.specs.Finds.{AreKept, AreThere, Found, GoesOnWith, IsFind}
 use Rattle.apex_states.specs.Halves.{IsHalf, StillHas}
 use Rattle.apex_states.specs.Index.{IsKnown}
-use Rattle.apex_states.specs.Keeping.{roots_found}
+use Rattle.apex_states.specs.Keeping.{roots_found, AreNumbered, ArePaired}
 use Rattle.apex_states.specs.States.{seen, state_of, states_in, IsRoot, IsStored, Reached}
 use Rattle.apex_states.proofs.Fronts.{at_old_place}
+use Rattle.apex_states.proofs.Numbering.{roots_numbered}
 use Rattle.apex_states.proofs.Storing.{root_at, same_root, seen_held, state_at, AreRoots, IsStored-held}
 
 single_back : (pairs : List ℕ) (place : ℕ) (row : List ℕ) → slice_get (map (λ pair. pair ∷ []) pairs) place ≡ Some row → (pair : ℕ) × (slice_get pairs place ≡ Some pair) × (row ≡ pair ∷ [])
 single_back [] place row is = cc
 single_back (pair ∷ pairs) zero row is = (pair, refl, sym (same_Some (pair ∷ []) row is))
 single_back (pair ∷ pairs) (suc place) row is = single_back pairs place row is
+
+-- the root of a state that was found
+pub root_found : (pairs : List ℕ) (found : Found) (place : ℕ) (origin : Origin) → place < length pairs → slice_get found.origins place ≡ Some origin → IsFind (roots_found pairs found) place (get_or pairs place 0 ∷ []) origin
+root_found pairs found place origin short origin_is = record {
+  state = slice_get-map (λ n. n ∷ []) pairs place ∙ ap (option_map (λ n. n ∷ [])) (slice_get-get_or pairs place 0 short);
+  origin = origin_is;
+}
 
 module _ (roots roots' : Reached) (left right left' right' : Half) (found : Found) (pairs : List ℕ)
     (stored : IsStored roots left right) (has : StillHas left left') (has' : StillHas right right') (half : IsHalf left') (half' : IsHalf right')
@@ -95,3 +104,17 @@ module _ (roots roots' : Reached) (left right left' right' : Half) (found : Foun
   AreKept-seen kept are =
       let Kept : Reached → Type 0 = λ r. AreKept found r (seen roots' left' right') kept in
       subst Kept (seen_held roots left right left' right' stored has has') (record { goes_on = goes_on_seen are.goes_on; there = there_seen are.goes_on kept are.there })
+
+-- what came of states that were to be kept, once their halves were numbered and their roots entered
+pub kept_all : (roots roots' : Reached) (left right left' right' : Half) (found : Found) (lefts rights pairs : List ℕ) (kept : Bool)
+    → IsStored roots left right → StillHas left left' → StillHas right right' → IsHalf left' → IsHalf right'
+    → found.width ≡ left.width + right.width
+    → AreNumbered left' found lefts → AreNumbered right' found rights → ArePaired lefts rights pairs
+    → AreKept (roots_found pairs found) roots roots' kept
+    → IsStored roots' left' right' × AreKept found (seen roots left right) (seen roots' left' right') kept
+kept_all roots roots' left right left' right' found lefts rights pairs kept stored has has' half half' width one other paired are =
+    let count : length pairs ≡ length found.states = paired.count ∙ one.count in
+    let is_root = roots_numbered left' right' found lefts rights pairs (has.side ∙ stored.left_side) (has'.side ∙ stored.right_side) (omega (arith, width, has.width, has'.width)) one other paired in (
+      IsStored-all roots roots' left right left' right' found pairs stored has has' half half' count is_root are.goes_on,
+      AreKept-seen roots roots' left right left' right' found pairs stored has has' half half' count is_root kept are,
+    )

@@ -1,22 +1,21 @@
 -- The states that are stored.
-use Rattle.std.proofs.Common.{◌≡◌, ℕ, zero, suc, ◌+◌, ◌/◌, ◌%◌, ◌^◌, ◌<◌, ◌≤◌, Bool, true, false, List, [], ◌∷◌, ◌++◌, length, length-append, map, Some, refl, sym, ap, ◌∙◌, subst, arith, get_or, inl, inr}
+use Rattle.std.proofs.Common.{◌≡◌, ℕ, zero, suc, ◌+◌, ◌/◌, ◌%◌, ◌^◌, Bool, true, false, List, [], ◌∷◌, ◌++◌, length, map, Some, refl, sym, ap, ◌∙◌, subst, arith, inl, inr}
 use Rattle.std.proofs.lemmas.List.{length-map, map-append}
-use Rattle.std.proofs.lemmas.Option.{same_Some, slice_get-get_or, slice_get-map, slice_get_within}
+use Rattle.std.proofs.lemmas.Option.{same_Some, slice_get-map}
 use Rattle.std.specs.List.{slice_get}
 use Rattle.std.specs.Option.{option_map}
 use Rattle.apex_states.specs.declared.halves.Half.{Half}
+use Rattle.apex_states.specs.declared.halves.Side.{Side}
 use Rattle.apex_states.specs.declared.halves.Side.TheVariants.{Left, Right}
 use Rattle.apex_states.specs.declared.states.Origin.{Origin}
-use Rattle.apex_states.specs.Finds.{AreKept, AreThere, Found, GoesOnWith}
-use Rattle.apex_states.specs.Halves.{words_at, IsHalf, IsNumber, StillHas}
+use Rattle.apex_states.specs.Halves.{number_on, part_of, words_at, IsHalf, IsNumber, StillHas}
 use Rattle.apex_states.specs.Index.{IsKnown}
-use Rattle.apex_states.specs.Keeping.{number_on, roots_found, AreNumbered, ArePaired, HasHalf}
-use Rattle.apex_states.specs.Lists.{AllAre, IsFront}
+use Rattle.apex_states.specs.Keeping.{HasHalf}
+use Rattle.apex_states.specs.Lists.{AllAre}
 use Rattle.apex_states.specs.Nodes.{IsExact}
 use Rattle.apex_states.specs.Registers.{AreApart}
-use Rattle.apex_states.specs.States.{seen, state_of, states_in, with_state, IsKept, IsRoot, IsStored, Reached}
-use Rattle.apex_states.proofs.Fronts.{at_old_place}
-use Rattle.apex_states.proofs.Halving.{parts_whole, same_number, words_at-is, IsNumber-held, StillHas-refl}
+use Rattle.apex_states.specs.States.{seen, state_of, states_in, IsKept, IsRoot, IsStored, Reached}
+use Rattle.apex_states.proofs.Halving.{parts_whole, same_number, words_at-is, IsNumber-held}
 use Rattle.apex_states.proofs.Probing.{last_or_before}
 use Rattle.apex_states.proofs.Trees.{same_word, split_append}
 
@@ -144,7 +143,41 @@ IsStored-held roots left right left' right' stored has has' half half' = record 
 
 pub seen_held : (roots : Reached) (left right left' right' : Half) → IsStored roots left right → StillHas left left' → StillHas right right' → seen roots left' right' ≡ seen roots left right
 seen_held roots left right left' right' stored has has' =
-    rw (has.width, has'.width) (ap (λ states. record { width = left.width + right.width; room = roots.room; states = states; origins = roots.origins }) (states_held left right left' right' roots.states has has' stored.valid))
+    let width : left'.width + right'.width ≡ left.width + right.width = omega (arith, has.width, has'.width) in
+    let states = states_held left right left' right' roots.states has has' stored.valid in
+    let Seen : ℕ → List (List ℕ) → Reached = λ n ks. record { width = n; room = roots.room; states = ks; origins = roots.origins } in
+    ap (λ n. Seen n (states_in left' right' roots.states)) width ∙ ap (Seen (left.width + right.width)) states
+
+-- the state at a place, if these are the words of its halves
+pub state_here : (roots : Reached) (left right left' right' : Half) (place pair pair' front_number back_number : ℕ) (front back : List ℕ)
+    → IsStored roots left right → StillHas left left' → StillHas right right'
+    → slice_get roots.states place ≡ Some (pair ∷ []) → slice_get roots.states place ≡ Some (pair' ∷ [])
+    → front_number ≡ pair / 2 ^ 32 → back_number ≡ pair' % 2 ^ 32
+    → IsNumber left' front_number front → IsNumber right' back_number back
+    → slice_get (states_in left right roots.states) place ≡ Some (front ++ back)
+state_here roots left right left' right' place pair pair' front_number back_number front back stored has has' there there' high low front_is back_is =
+    let e : pair' ≡ pair = same_head pair' pair (same_Some (pair' ∷ []) (pair ∷ []) (sym there' ∙ there)) in
+    let Front : ℕ → Type 0 = λ n. IsNumber left' n front in
+    let Back : ℕ → Type 0 = λ n. IsNumber right' n back in
+    let root = IsRoot-numbered left' right' pair front back (front ++ back) (subst Front high front_is) (subst Back (low ∙ ap (λ n. n % 2 ^ 32) e) back_is) refl in
+    ap (λ ks. slice_get ks place) (sym (states_held left right left' right' roots.states has has' stored.valid)) ∙ state_at left' right' roots.states place (pair ∷ []) (front ++ back) there root
+  where
+    same_head : (a b : ℕ) → a ∷ [] ≡ b ∷ [] → a ≡ b
+    same_head a b same = cc
+
+-- the root of a state whose halves are numbered, one after the other
+pub numbered_root : (roots : Reached) (left right left' right' : Half) (front_number back_number pair : ℕ) (state : List ℕ)
+    → IsStored roots left right → StillHas left left' → StillHas right right' → length state ≡ left.width + right.width
+    → IsNumber left' front_number (part_of left.side left.width state) → IsNumber right' back_number (part_of right.side right.width state)
+    → pair / 2 ^ 32 ≡ front_number → pair % 2 ^ 32 ≡ back_number
+    → IsRoot left' right' (pair ∷ []) state
+numbered_root roots left right left' right' front_number back_number pair state stored has has' long front back high low =
+    let Front : Side → Type 0 = λ s. IsNumber left' (pair / 2 ^ 32) (part_of s left.width state) in
+    let Back : Side → Type 0 = λ s. IsNumber right' (pair % 2 ^ 32) (part_of s right.width state) in
+    let front' : IsNumber left' (pair / 2 ^ 32) (part_of left.side left.width state) = subst (λ n. IsNumber left' n (part_of left.side left.width state)) (sym high) front in
+    let back' : IsNumber right' (pair % 2 ^ 32) (part_of right.side right.width state) = subst (λ n. IsNumber right' n (part_of right.side right.width state)) (sym low) back in
+    IsRoot-numbered left' right' pair (part_of Left left.width state) (part_of Right right.width state) state
+    (subst Front stored.left_side front') (subst Back stored.right_side back') (parts_whole left.width right.width state long)
 
 -- What came of a state that was to be kept.
 

@@ -1,5 +1,5 @@
 //! The halves of states on one side, as trees of their words.
-ghost use Rattle.std.specs.Prelude.{◌≡◌, ℕ, ◌×◌, ◌≤◌, ◌++◌, List, drop, length, IfOk};
+ghost use Rattle.std.specs.Prelude.{◌≡◌, ℕ, ◌≤◌, ◌++◌, List, drop, length, IfOk};
 ghost use Rattle.apex_states.specs.Halves.{part_of, IsHalf, IsNumber, StillHas};
 
 use crate::nodes::Nodes;

@@ -1,6 +1,6 @@
 //! States that were found are kept: their halves are numbered, by a thread for each side, and then the
 //! pairs of these numbers are entered.
-ghost use Rattle.std.specs.Prelude.{◌≡◌, ◌×◌, length, IfOk};
+ghost use Rattle.std.specs.Prelude.{◌≡◌, length, IfOk};
 ghost use Rattle.apex_states.specs.Finds.{AreKept};
 ghost use Rattle.apex_states.specs.Halves.{IsHalf, StillHas};
 ghost use Rattle.apex_states.specs.Keeping.{roots_found, AreNumbered, ArePaired, CanNumber};

@@ -1,5 +1,5 @@
 //! The pairs of the numbers of the halves of states, and where each state comes from.
-ghost use Rattle.std.specs.Prelude.{◌≡◌, ℕ, ◌×◌, ◌^◌, ◌<◌, ◌≤◌, [], ◌∷◌, length, slice_get, Some, IfOk};
+ghost use Rattle.std.specs.Prelude.{◌≡◌, ℕ, ◌^◌, ◌<◌, ◌≤◌, [], ◌∷◌, length, slice_get, Some, IfOk};
 ghost use Rattle.apex_states.specs.Halves.{number_on};
 ghost use Rattle.apex_states.specs.Registers.{AreApart};
 ghost use Rattle.apex_states.specs.States.{no_states, IsKept};
@@ -21,7 +21,7 @@ pub(crate) struct Roots {
 }
 
 impl Model for Roots {
-    ghost use Rattle.std.specs.Prelude.{◌≡◌, ◌×◌, ◌≤◌, length, vec_capacity};
+    ghost use Rattle.std.specs.Prelude.{◌≡◌, ◌≤◌, length, vec_capacity};
     ghost use Rattle.apex_states.specs.States.{Reached};
 
     ghost Value = { Reached };

@@ -92,13 +92,14 @@ impl States {
     ) -> Result<(), AllocError>
         requires place { place < length self.now.states }
         requires width { length state.old ≡ self.now.width }
-        ensures state { IfOk result (λ _. slice_get self.now.states place ≡ Some state.new) }
+        ensures { IfOk result (λ _. slice_get self.now.states place ≡ Some state.new) }
     {
         let front_number = self.roots.number(place, Side::Left);
         let back_number = self.roots.number(place, Side::Right);
         let (front, back) = state.split_at_mut(self.left.width());
         self.left.read(alloc, front_number, left, front)?;
-        self.right.read(alloc, back_number, right, back)
+        self.right.read(alloc, back_number, right, back)?;
+        Ok(())
     }
 
     /// The origin of each state.
