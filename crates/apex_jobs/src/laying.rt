@@ -1,5 +1,5 @@
 //! States of a level are laid out on desks.
-ghost use Rattle.std.specs.Prelude.{◌≡◌, ◌+◌, ◌*◌, ◌<◌, ◌≤◌, length, IfOk};
+ghost use Rattle.std.specs.Prelude.{◌≡◌, ◌+◌, ◌*◌, ◌^◌, ◌<◌, ◌≤◌, length, IfOk};
 ghost use Rattle.apex_explore.specs.Desks.{IsDesk};
 ghost use Rattle.apex_jobs.specs.Rounds.{AreLaidOut, IsLaid, LaysOut, start_at};
 ghost use Rattle.apex_states.specs.Lists.{AllAre};
@@ -63,7 +63,7 @@ pub(crate) fn lay_out_all<R: Threads + Sync, W: Drop + Send, S: System<Workspace
     let count = desks.len();
     let size = size_for(limit - from, count);
     let lay_out = |place: usize, desk: &mut Desk<W>|
-        requires { (place < count) × (from ≤ limit) × (limit ≤ length states.now.states)
+        requires { (place + 1 < 2 ^ 64) × (from ≤ limit) × (limit ≤ length states.now.states)
             × (desk.now.batch.width ≡ states.now.width) }
         ensures { LaysOut states.entry.now (start_at from limit size place)
             (start_at from limit size (place + 1)) desk.entry.now desk.exit.now }
