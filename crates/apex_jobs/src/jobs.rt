@@ -53,8 +53,8 @@ pub struct Jobs<'r, R> {
 }
 
 impl<'r, R: Threads + Sync> Jobs<'r, R> {
-    /// `jobs` threads that expand states, beside the caller, which keeps those that they find. The caller
-    /// does both if `jobs` is 0 or 1.
+    /// `jobs` threads that expand states, beside the caller and one more, which keep those that they find.
+    /// The caller does all if `jobs` is 0 or 1.
     pub fn new(rt: &'r R, jobs: u32) -> Jobs<'r, R> {
         Jobs { rt, jobs }
     }
@@ -180,8 +180,8 @@ impl<'r, R: Threads + Sync> Jobs<'r, R> {
         self.go_on_at_once(alloc, search, system, desks, places, watch)
     }
 
-    /// Goes on for these states of a level, some at a time: while threads expand some, the caller keeps what
-    /// was found before. At the end of the level it goes on with the next one, as long as there are enough
+    /// Goes on for these states of a level, some at a time: while threads expand some, others keep what was
+    /// found before. At the end of the level it goes on with the next one, as long as there are enough
     /// states for the desks. It stops before that if there is an answer: why it stops then. Fails only for
     /// want of memory.
     fn go_on_at_once<W: Drop + Send, S: System<Workspace = W> + Sync, V: Watch>(
