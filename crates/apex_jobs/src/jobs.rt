@@ -15,8 +15,9 @@ use std::alloc::{AllocError, Global};
 use std::marker::{Send, Sync};
 use std::thread::Threads;
 
-/// A desk has at most this many states at once.
-const MOST_AT_DESK: usize = 2048;
+/// A desk has at most this many states at once, so that a processor's cache has room for them and for
+/// what is found in them.
+const MOST_AT_DESK: usize = 512;
 
 /// To expand fewer states than this takes less time than to begin a thread.
 const LEAST_AT_DESK: usize = 32;
