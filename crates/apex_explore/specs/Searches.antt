@@ -48,11 +48,3 @@ pub record AreLeft (front : Front) (places : Places) : Type 0 where
   pub from : places.from ≡ front.at
   pub limit : places.limit ≡ front.level_end
   pub some : places.from < places.limit
-
--- the search is the same, but for the words in which it has the state of the next choices
-pub record IsSameSearch {W : Type 0} (old new : Search W) : Type 0 where
-  pub states : new.states ≡ old.states
-  pub front : new.front ≡ old.front
-  pub workspace : new.workspace ≡ old.workspace
-  pub next : new.next ≡ old.next
-  pub state : length new.state.items ≡ length old.state.items

@@ -1,11 +1,12 @@
 //! Desks at which states are expanded beside the search.
-ghost use Rattle.std.specs.Prelude.{◌≡◌, IfOk, None};
+ghost use Rattle.std.specs.Prelude.{◌≡◌, ◌≤◌, length, IfOk, None};
 ghost use Rattle.apex_explore.specs.Desks.{IsDesk, IsMade, IsReady};
 ghost use Rattle.apex_explore.specs.Systems.{step_within};
+ghost use Rattle.apex_states.specs.Batches.{IsCopied};
 
 use crate::parts::{Expansion, expand_batch};
 use crate::systems::System;
-use apex_states::Batch;
+use apex_states::{Batch, States};
 use std::alloc::{AllocError, Global};
 
 /// What one thread needs to expand states: copies of them, and a workspace of its own.
@@ -16,6 +17,8 @@ pub struct Desk<W> {
     pub(crate) next: Vec<u64>,
     /// The states that are expanded.
     pub(crate) batch: Batch,
+    /// Whether there was memory for them.
+    pub(crate) laid: Result<(), AllocError>,
     /// What the choices in these states do, once that is made.
     pub(crate) made: Option<Result<Expansion, AllocError>>,
 }
@@ -31,8 +34,30 @@ impl<W: Drop> Desk<W> {
             workspace: system.workspace(alloc)?,
             next: vec![in alloc; 0; width]?,
             batch: Batch::new(alloc, width),
+            laid: Ok(()),
             made: None,
         })
+    }
+
+    /// Lays out copies of the states from the place `from` on and before `limit`, in place of those that
+    /// were here.
+    pub fn lay_out(&mut self, alloc: Global, states: &States, from: usize, limit: usize)
+        requires in_order { from ≤ limit }
+        requires within { limit ≤ length states.now.states }
+        requires width { self.old.batch.width ≡ states.now.width }
+        ensures copied { IfOk self.new.laid (λ _.
+            IsCopied states.now from limit self.new.batch) }
+        ensures same { self.new
+            ≡ record self.old { batch = self.new.batch; laid = self.new.laid } }
+    {
+        self.laid = self.batch.copy(alloc, states, from, limit);
+    }
+
+    /// Fails only if there was no memory for the states that were laid out last.
+    pub fn laid(&self) -> Result<(), AllocError>
+        ensures { result ≡ self.now.laid }
+    {
+        self.laid
     }
 
     /// Makes each choice in the states of the desk, until one hits.

@@ -77,7 +77,7 @@ pub(crate) fn expand_batch<S: System>(
         IfOk result (IsExpansion step (S.word_count system.now) (S.is_state system.now) batch.now) }
     ensures workspace { IfOk result (λ _. S.is_workspace system.now workspace.new) }
 {
-    let mut finds = Finds::new(alloc, system.width())?;
+    let mut finds = Finds::new(alloc, system.width(), batch.len().saturating_mul(2))?;
     for at in 0..batch.len() {
         let place = batch.first() + at;
         let hit = expand_state(system, workspace, batch.state(at), next, place, &mut finds)?;

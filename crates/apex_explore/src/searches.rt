@@ -1,15 +1,13 @@
 //! A search that can go on after an answer.
-ghost use Rattle.std.specs.Prelude.{◌≡◌, ◌≤◌, ◌+◌, ◌^◌, length, IfOk, IfSome, None};
+ghost use Rattle.std.specs.Prelude.{◌≡◌, ◌≤◌, ◌+◌, length, IfOk, IfSome, None};
 ghost use Rattle.apex_explore.specs.Answers.{Says};
 ghost use Rattle.apex_explore.specs.Levels.{Stops, turned};
 ghost use Rattle.apex_explore.specs.Parts.{Fit, IsPast};
-ghost use Rattle.apex_explore.specs.Searches.{AreLeft, IsOver, IsSameSearch, IsSearched, IsSearchedBefore, IsUnderWay, room_of};
+ghost use Rattle.apex_explore.specs.Searches.{AreLeft, IsOver, IsSearched, IsSearchedBefore, IsUnderWay, room_of};
 ghost use Rattle.apex_explore.specs.Systems.{step_within};
-ghost use Rattle.apex_states.specs.Batches.{IsCopied};
 ghost use Rattle.apex_states.specs.Lists.{IsFront};
 
 use crate::answers::Answer;
-use crate::desks::Desk;
 use crate::fronts::Front;
 use crate::parts::Expansion;
 use crate::paths::path_to;
@@ -19,6 +17,7 @@ use crate::taking::take_all;
 use crate::watches::Watch;
 use apex_states::{Origin, States};
 use std::alloc::{AllocError, Global};
+use std::thread::Threads;
 
 /// After this many states a search shows how far it has come.
 const STRIDE: usize = 4096;
@@ -156,32 +155,19 @@ impl<W: Drop> Search<W> {
         )
     }
 
-    /// Copies the states from the place `from` on and before `limit` to the desk, in place of those that
-    /// it has. Fails only for want of memory.
-    pub fn lay_out(
-        &mut self,
-        desk: &mut Desk<W>,
-        from: usize,
-        limit: usize,
-    ) -> Result<(), AllocError>
-        requires in_order { from ≤ limit }
-        requires within { limit ≤ length self.old.states.states }
-        requires width { desk.old.batch.width ≡ self.old.states.width }
-        requires state { length self.old.state.items ≡ self.old.states.width }
-        ensures copied { IfOk result (λ _. IsCopied self.old.states from limit desk.new.batch) }
-        ensures desk { IfOk result (λ _. desk.new ≡ record desk.old { batch = desk.new.batch }) }
-        ensures same { IfOk result (λ _. IsSameSearch self.old self.new) }
-        ensures fits { limit ≤ 2 ^ 32 }
+    /// The states that were reached.
+    pub fn states(&self) -> &States
+        ensures { result.now ≡ self.now.states }
     {
-        let _ = self.states.len();
-        let state = self.state.as_mut_slice();
-        desk.batch.copy(&mut self.states, state, from, limit)
+        &self.states
     }
 
     /// Goes on by these expansions of the states from the one that is next on and before `limit`, or
-    /// until there is an answer: why it stops then. Fails only for want of memory.
-    pub fn take<S: System<Workspace = W>>(
+    /// until there is an answer: why it stops then. A thread keeps the left half of each state, if it can be
+    /// made, and the caller the right one. Fails only for want of memory.
+    pub fn take<R: Threads, S: System<Workspace = W>>(
         &mut self,
+        rt: &R,
         alloc: Global,
         system: &S,
         limit: usize,
@@ -204,13 +190,12 @@ impl<W: Drop> Search<W> {
         ensures states { IfOk result (λ _. IsFront self.old.states.states self.new.states.states) }
         ensures room { IfOk result (λ _. room_of self.new ≡ room_of self.old) }
     {
-        let state = self.state.as_mut_slice();
         take_all(
+            rt,
             alloc,
             system,
             &mut self.states,
             &mut self.front,
-            state,
             limit,
             expansions,
         )

@@ -1,5 +1,5 @@
 //! The states that were found in parts of a level are kept.
-ghost use Rattle.std.specs.Prelude.{◌≡◌, length, IfOk, None};
+ghost use Rattle.std.specs.Prelude.{◌≡◌, IfOk, None};
 ghost use Rattle.apex_explore.specs.Parts.{Fit, FitsOne, Follows, IsPast, Stands};
 ghost use Rattle.apex_explore.specs.Systems.{step_within};
 
@@ -7,23 +7,23 @@ use crate::fronts::Front;
 use crate::parts::Expansion;
 use crate::search::Stop;
 use crate::systems::System;
-use apex_states::{States, keep_all};
+use apex_states::States;
 use std::alloc::{AllocError, Global};
+use std::thread::Threads;
 
 /// Keeps the states of an expansion whose first state is at the front, and goes on to its end: why the
 /// search stops, if it does. Fails only for want of memory.
-fn take_part<S: System>(
+fn take_part<R: Threads, S: System>(
+    rt: &R,
     alloc: Global,
     system: &S,
     states: &mut States,
     front: &mut Front,
-    state: &mut [u64],
     expansion: &Expansion,
 ) -> Result<Option<Stop>, AllocError>
     requires stands { let step = step_within (S.choice_count system.now) (S.step system.now) in
         Stands step (S.is_state system.now) (S.start system.now) (S.word_count system.now)
         states.old front.old }
-    requires state { length state.old ≡ S.word_count system.now }
     requires fits { let step = step_within (S.choice_count system.now) (S.step system.now) in
         FitsOne step (S.is_state system.now) states.old front.old expansion.now }
     ensures follows { let step = step_within (S.choice_count system.now) (S.step system.now) in
@@ -32,7 +32,7 @@ fn take_part<S: System>(
     ensures past { IfOk result (λ stop. stop ≡ None
         → IsPast expansion.now.end front.old front.new × (expansion.now.hit ≡ None)) }
 {
-    let kept = keep_all(alloc, states, state, &expansion.finds)?;
+    let kept = states.keep_all(rt, alloc, &expansion.finds)?;
     if !kept {
         return Ok(Some(Stop::Over));
     }
@@ -45,19 +45,18 @@ fn take_part<S: System>(
 
 /// Keeps the states of the expansions in order, until a choice hits or there is no room for a state: why
 /// the search stops then. They end at `limit`. Fails only for want of memory.
-pub(crate) fn take_all<S: System>(
+pub(crate) fn take_all<R: Threads, S: System>(
+    rt: &R,
     alloc: Global,
     system: &S,
     states: &mut States,
     front: &mut Front,
-    state: &mut [u64],
     limit: usize,
     expansions: &[Expansion],
 ) -> Result<Option<Stop>, AllocError>
     requires stands { let step = step_within (S.choice_count system.now) (S.step system.now) in
         Stands step (S.is_state system.now) (S.start system.now) (S.word_count system.now)
         states.old front.old }
-    requires state { length state.old ≡ S.word_count system.now }
     requires fit { let step = step_within (S.choice_count system.now) (S.step system.now) in
         Fit step (S.is_state system.now) states.old front.old limit expansions.now }
     ensures follows { let step = step_within (S.choice_count system.now) (S.step system.now) in
@@ -66,7 +65,7 @@ pub(crate) fn take_all<S: System>(
     ensures past { IfOk result (λ stop. stop ≡ None → IsPast limit front.old front.new) }
 {
     for place in 0..expansions.len() {
-        let taken = take_part(alloc, system, states, front, state, &expansions[place])?;
+        let taken = take_part(rt, alloc, system, states, front, &expansions[place])?;
         match taken {
             Some(stop) => return Ok(Some(stop)),
             None => {}

@@ -121,18 +121,18 @@ made_desk step word_count is_state is_workspace copies desk expansion made is =
     record { workspace = same.workspace; next = same.next; width = same.width }
 
 -- What a call at each member of a list leaves there.
-module _ {X : Type 0} (R : X → X → Type 0) (old new : List X) (count : length new ≡ length old)
-    (each : (at : ℕ) (d : X) → at < length old → R (get_or old at d) (get_or new at d)) where
-  pub left_of : (place : ℕ) (x : X) → slice_get old place ≡ Some x → (y : X) × (slice_get new place ≡ Some y) × R x y
+module _ {X : Type 0} (R : ℕ → X → X → Type 0) (old new : List X) (count : length new ≡ length old)
+    (each : (at : ℕ) (d : X) → at < length old → R at (get_or old at d) (get_or new at d)) where
+  pub left_of : (place : ℕ) (x : X) → slice_get old place ≡ Some x → (y : X) × (slice_get new place ≡ Some y) × R place x y
   left_of place x is =
       let short = slice_get_within old place x is in
       let there = slice_get-get_or new place x (omega (arith, short, count)) in
       let same : get_or old place x ≡ x = same_Some (get_or old place x) x (sym (slice_get-get_or old place x short) ∙ is) in
-      (get_or new place x, there, subst (λ z. R z (get_or new place x)) same (each place x short))
+      (get_or new place x, there, subst (λ z. R place z (get_or new place x)) same (each place x short))
 
-  pub left_from : (place : ℕ) (y : X) → slice_get new place ≡ Some y → (x : X) × (slice_get old place ≡ Some x) × R x y
+  pub left_from : (place : ℕ) (y : X) → slice_get new place ≡ Some y → (x : X) × (slice_get old place ≡ Some x) × R place x y
   left_from place y is =
       let within = slice_get_within new place y is in
       let short : place < length old = omega (arith, within, count) in
       let same : get_or new place y ≡ y = same_Some (get_or new place y) y (sym (slice_get-get_or new place y within) ∙ is) in
-      (get_or old place y, slice_get-get_or old place y short, subst (R (get_or old place y)) same (each place y short))
+      (get_or old place y, slice_get-get_or old place y short, subst (R place (get_or old place y)) same (each place y short))

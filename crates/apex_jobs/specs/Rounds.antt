@@ -1,5 +1,5 @@
 -- Rounds of a level: states that are laid out on desks, and what threads found there.
-use Rattle.std.specs.Prelude.{◌≡◌, ℕ, ◌+◌, ◌≤◌, List, length, IfSome, None, Ok, Option, Some, slice_get}
+use Rattle.std.specs.Prelude.{◌≡◌, ℕ, ◌+◌, ◌*◌, ◌≤◌, List, length, min, IfOk, IfSome, None, Ok, Option, Some, slice_get}
 use Rattle.apex_explore.specs.Desks.{IsReady}
 use Rattle.apex_explore.specs.Levels.{Stops}
 use Rattle.apex_explore.specs.Parts.{Expanded, IsPast}
@@ -12,6 +12,20 @@ use Rattle.apex_explore.specs.declared.searches.Search.{Search}
 use Rattle.apex_states.specs.Batches.{IsCopied}
 use Rattle.apex_states.specs.Lists.{AllAre, IsFront}
 use Rattle.apex_states.specs.States.{Reached}
+
+-- the place of the first state of a desk, if each has this many from `from` on and before `limit`, as
+-- far as they go
+abbrev pub start_at : ℕ → ℕ → ℕ → ℕ → ℕ
+start_at from limit size desk = min limit (from + size * desk)
+
+-- there was memory for the states of the desk
+abbrev pub IsLaid : {W : Type 0} → Desk W → Type 0
+IsLaid desk = desk.laid ≡ Ok tt
+
+-- copies of these states are laid out on the desk, or there is no memory
+pub record LaysOut {W : Type 0} (reached : Reached) (from limit : ℕ) (old new : Desk W) : Type 0 where
+  pub copied : IfOk new.laid (λ _. IsCopied reached from limit new.batch)
+  pub same : new ≡ record old { batch = new.batch; laid = new.laid }
 
 -- the starts cut the places from `from` on and before `limit` into this many parts
 pub record AreStarts (from limit count : ℕ) (start : ℕ → ℕ) : Type 0 where

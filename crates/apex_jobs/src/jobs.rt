@@ -15,11 +15,12 @@ use std::alloc::{AllocError, Global};
 use std::marker::{Send, Sync};
 use std::thread::Threads;
 
-/// A desk has at most this many states at once.
-const MOST_STATES: usize = 2048;
+/// A desk has at most this many states at once, so that a processor's cache has room for them and for
+/// what is found in them.
+const MOST_AT_DESK: usize = 512;
 
 /// To expand fewer states than this takes less time than to begin a thread.
-const LEAST_STATES: usize = 32;
+const LEAST_AT_DESK: usize = 32;
 
 /// A level is cut into this many rounds if that gives each desk neither too many states nor too few.
 const ROUNDS: usize = 1;
@@ -38,7 +39,11 @@ fn states_ahead(states: usize, end: usize, limit: usize, desks: usize) -> usize
         return limit - end;
     }
     let left = states - end;
-    if left / LEAST_STATES < desks { 0 } else { left }
+    if left / LEAST_AT_DESK < desks {
+        0
+    } else {
+        left
+    }
 }
 
 /// The threads among which the states of a level are split.
@@ -49,8 +54,8 @@ pub struct Jobs<'r, R> {
 }
 
 impl<'r, R: Threads + Sync> Jobs<'r, R> {
-    /// `jobs` threads that expand states, beside the caller, which keeps those that they find. The caller
-    /// does both if `jobs` is 0 or 1.
+    /// `jobs` threads that expand states, beside the caller and one more, which keep those that they find.
+    /// The caller does all if `jobs` is 0 or 1.
     pub fn new(rt: &'r R, jobs: u32) -> Jobs<'r, R> {
         Jobs { rt, jobs }
     }
@@ -132,8 +137,8 @@ impl<'r, R: Threads + Sync> Jobs<'r, R> {
         ensures within { result ≤ left }
     {
         let desks = self.jobs.max(1) as usize;
-        let least = LEAST_STATES.saturating_mul(desks);
-        let most = MOST_STATES.saturating_mul(desks);
+        let least = LEAST_AT_DESK.saturating_mul(desks);
+        let most = MOST_AT_DESK.saturating_mul(desks);
         (left / ROUNDS).max(least).min(most).min(left)
     }
 
@@ -170,14 +175,14 @@ impl<'r, R: Threads + Sync> Jobs<'r, R> {
             return Ok(Some(Stop::Done));
         };
         let Places { from, limit } = places;
-        if (limit - from) / LEAST_STATES < desks.len() {
+        if (limit - from) / LEAST_AT_DESK < desks.len() {
             return search.go_on_for(alloc, system, limit - from);
         }
         self.go_on_at_once(alloc, search, system, desks, places, watch)
     }
 
-    /// Goes on for these states of a level, some at a time: while threads expand some, the caller keeps what
-    /// was found before. At the end of the level it goes on with the next one, as long as there are enough
+    /// Goes on for these states of a level, some at a time: while threads expand some, others keep what was
+    /// found before. At the end of the level it goes on with the next one, as long as there are enough
     /// states for the desks. It stops before that if there is an answer: why it stops then. Fails only for
     /// want of memory.
     fn go_on_at_once<W: Drop + Send, S: System<Workspace = W> + Sync, V: Watch>(
@@ -211,16 +216,16 @@ impl<'r, R: Threads + Sync> Jobs<'r, R> {
     {
         let Places { from, mut limit } = places;
         let mut end = from + self.states_at_once(limit - from);
-        lay_out_all(system, search, desks, from, end)?;
+        lay_out_all(self.rt, alloc, system, search.states(), desks, from, end)?;
         let mut expansions = expand_all(self.rt, alloc, system, desks)?;
         loop {
             search.show(watch);
             let left = states_ahead(search.len(), end, limit, desks.len());
             if left == 0 {
-                return search.take(alloc, system, end, expansions.as_slice());
+                return search.take(self.rt, alloc, system, end, expansions.as_slice());
             }
             let next = end + self.states_at_once(left);
-            lay_out_all(system, search, desks, end, next)?;
+            lay_out_all(self.rt, alloc, system, search.states(), desks, end, next)?;
             let found = expansions.as_slice();
             let (stop, more) = take_and_expand(self.rt, alloc, system, search, end, found, desks)?;
             match stop {

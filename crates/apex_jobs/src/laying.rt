@@ -1,17 +1,19 @@
 //! States of a level are laid out on desks.
-ghost use Rattle.std.specs.Prelude.{◌≡◌, ◌+◌, ◌*◌, ◌<◌, ◌≤◌, min, length, IfOk};
+ghost use Rattle.std.specs.Prelude.{◌≡◌, ◌+◌, ◌*◌, ◌^◌, ◌<◌, ◌≤◌, length, IfOk};
 ghost use Rattle.apex_explore.specs.Desks.{IsDesk};
-ghost use Rattle.apex_explore.specs.Searches.{IsOver, IsSameSearch};
-ghost use Rattle.apex_jobs.specs.Rounds.{AreLaidOut};
+ghost use Rattle.apex_jobs.specs.Rounds.{AreLaidOut, IsLaid, LaysOut, start_at};
 ghost use Rattle.apex_states.specs.Lists.{AllAre};
 
-use apex_explore::{Desk, Search, System};
-use std::alloc::AllocError;
+use apex_explore::{Desk, System};
+use apex_states::States;
+use std::alloc::{AllocError, Global};
+use std::marker::{Send, Sync};
+use std::thread::{Threads, for_each_mut};
 
 /// The place of the first state of a desk, if each has this many of the states from `from` on and before
 /// `limit`, as far as they go.
 fn start_of(from: usize, limit: usize, size: usize, desk: usize) -> usize
-    ensures { result ≡ min limit (from + size * desk) }
+    ensures { result ≡ start_at from limit size desk }
 {
     limit.min(from.saturating_add(size.saturating_mul(desk)))
 }
@@ -24,32 +26,52 @@ fn size_for(states: usize, desks: usize) -> usize
     (states / desks).saturating_add(1)
 }
 
+/// Fails if there was no memory for the states of a desk.
+fn all_laid<W: Drop>(desks: &[Desk<W>]) -> Result<(), AllocError>
+    ensures { IfOk result (λ _. AllAre IsLaid desks.now) }
+{
+    for place in 0..desks.len() {
+        desks[place].laid()?;
+    }
+    Ok(())
+}
+
 /// Lays out copies of the states from the place `from` on and before `limit` on the desks, about the same
-/// number on each. Fails only for want of memory.
-pub(crate) fn lay_out_all<W: Drop, S: System<Workspace = W>>(
+/// number on each. A thread copies those of each desk, if one can be made for it. Fails only for want of
+/// memory.
+pub(crate) fn lay_out_all<R: Threads + Sync, W: Drop + Send, S: System<Workspace = W>>(
+    rt: &R,
+    alloc: Global,
     system: &S,
-    search: &mut Search<W>,
+    states: &States,
     desks: &mut [Desk<W>],
     from: usize,
     limit: usize,
 ) -> Result<(), AllocError>
     requires some { 0 < length desks.old }
     requires in_order { from ≤ limit }
-    requires within { limit ≤ length search.old.states.states }
-    requires over { IsOver (S.word_count system.now) (S.is_state system.now)
-        (S.is_workspace system.now) search.old }
+    requires within { limit ≤ length states.now.states }
+    requires width { states.now.width ≡ S.word_count system.now }
+    requires states { AllAre (S.is_state system.now) states.now.states }
     requires desks { AllAre (IsDesk (S.word_count system.now) (S.is_workspace system.now)) desks.old }
     ensures laid { IfOk result (λ _.
-        AreLaidOut (S.is_state system.now) search.old.states from limit desks.new) }
+        AreLaidOut (S.is_state system.now) states.now from limit desks.new) }
     ensures desks { IfOk result (λ _.
         AllAre (IsDesk (S.word_count system.now) (S.is_workspace system.now)) desks.new) }
-    ensures same { IfOk result (λ _. IsSameSearch search.old search.new) }
 {
-    let size = size_for(limit - from, desks.len());
-    for place in 0..desks.len() {
+    let _ = states.len();
+    let count = desks.len();
+    let size = size_for(limit - from, count);
+    let lay_out = |place: usize, desk: &mut Desk<W>|
+        requires { (place + 1 < 2 ^ 64) × (from ≤ limit) × (limit ≤ length states.now.states)
+            × (desk.now.batch.width ≡ states.now.width) }
+        ensures { LaysOut states.entry.now (start_at from limit size place)
+            (start_at from limit size (place + 1)) desk.entry.now desk.exit.now }
+    {
         let start = start_of(from, limit, size, place);
         let end = start_of(from, limit, size, place + 1);
-        search.lay_out(&mut desks[place], start, end)?;
-    }
-    Ok(())
+        desk.lay_out(alloc, states, start, end)
+    };
+    for_each_mut(rt, desks, count, &lay_out);
+    all_laid(desks)
 }

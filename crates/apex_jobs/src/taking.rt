@@ -57,7 +57,7 @@ pub(crate) fn take_and_expand<R: Threads + Sync, W: Drop + Send, S: System<Works
             IfOk result (IsTaken step (S.start system.entry.now) (S.word_count system.entry.now)
             (S.is_state system.entry.now) (S.is_workspace system.entry.now) limit
             search.entry.now search.exit.now) }
-    { search.take(alloc, system, limit, expansions) };
+    { search.take(rt, alloc, system, limit, expansions) };
     let mut expand = || -> Result<Vec<Expansion>, AllocError>
         requires { IsSync R.row × IsSync S.row × IsSend W.row × (0 < length desks.now)
             × AllAre (IsDesk (S.word_count system.now) (S.is_workspace system.now)) desks.now

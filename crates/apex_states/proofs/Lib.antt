@@ -1,8 +1,11 @@
 pub mod Comparing
 pub mod Fronts
 pub mod Gathering
+pub mod Halving
+pub mod Numbering
 pub mod Packing
 pub mod Probing
 pub mod Registering
+pub mod Rooting
 pub mod Storing
 pub mod Trees

@@ -1,31 +1,23 @@
 -- The states that are stored.
-use Rattle.std.proofs.Common.{◌≡◌, ℕ, zero, suc, ◌*◌, ◌≤◌, true, false, List, [], ◌∷◌, ◌++◌, length, length-append, map, take, drop, Some, refl, sym, ap, ◌∙◌, subst, arith, inl, inr}
-use Rattle.std.proofs.lemmas.List.{length-drop, length-map, map-append}
+use Rattle.std.proofs.Common.{◌≡◌, ℕ, zero, suc, ◌+◌, ◌/◌, ◌%◌, ◌^◌, Bool, true, false, List, [], ◌∷◌, ◌++◌, length, map, Some, refl, sym, ap, ◌∙◌, subst, arith, inl, inr}
+use Rattle.std.proofs.lemmas.List.{length-map, map-append}
 use Rattle.std.proofs.lemmas.Option.{same_Some, slice_get-map}
 use Rattle.std.specs.List.{slice_get}
-use Rattle.std.specs.Prelude.{slice_index_or}
 use Rattle.std.specs.Option.{option_map}
-use Rattle.apex_states.specs.declared.nodes.Nodes.{Nodes}
-use Rattle.apex_states.specs.declared.registers.Entered.TheVariants.{Known, New, Full}
+use Rattle.apex_states.specs.declared.halves.Half.{Half}
+use Rattle.apex_states.specs.declared.halves.Side.{Side}
+use Rattle.apex_states.specs.declared.halves.Side.TheVariants.{Left, Right}
 use Rattle.apex_states.specs.declared.states.Origin.{Origin}
-use Rattle.apex_states.specs.declared.states.TheConstants.{DEPTH}
+use Rattle.apex_states.specs.Halves.{number_on, part_of, words_at, IsHalf, IsNumber, StillHas}
 use Rattle.apex_states.specs.Index.{IsKnown}
+use Rattle.apex_states.specs.Keeping.{HasHalf}
 use Rattle.apex_states.specs.Lists.{AllAre}
-use Rattle.apex_states.specs.Nodes.{IsExact, IsHeld, IsTree, Joins, no_nodes}
-use Rattle.apex_states.specs.Registers.{AreApart, IsEntered}
-use Rattle.apex_states.specs.Rows.{Packed, no_rows}
-use Rattle.apex_states.specs.States.{IsHere, IsKept, IsRoot, IsStored, Reached, state_of, states_in, with_state}
+use Rattle.apex_states.specs.Nodes.{IsExact}
+use Rattle.apex_states.specs.Registers.{AreApart}
+use Rattle.apex_states.specs.States.{seen, state_of, states_in, IsKept, IsRoot, IsStored, Reached}
+use Rattle.apex_states.proofs.Halving.{parts_whole, same_number, words_at-is, IsNumber-held}
 use Rattle.apex_states.proofs.Probing.{last_or_before}
-use Rattle.apex_states.proofs.Registering.{AreApart-push}
-use Rattle.apex_states.proofs.Trees.{joined-root, same_root, single, Joins-held, Joins-single}
-
-take_front : (xs ys : List ℕ) → take (length xs) (xs ++ ys) ≡ xs
-take_front [] ys = refl
-take_front (x ∷ xs) ys = ap (λ zs. x ∷ zs) (take_front xs ys)
-
-pub drop_front : (xs ys : List ℕ) → drop (length xs) (xs ++ ys) ≡ ys
-drop_front [] ys = refl
-drop_front (x ∷ xs) ys = drop_front xs ys
+use Rattle.apex_states.proofs.Trees.{same_word, split_append}
 
 map_back : (f : List ℕ → List ℕ) (rows : List (List ℕ)) (place : ℕ) (k : List ℕ) → slice_get (map f rows) place ≡ Some k → (row : List ℕ) × (slice_get rows place ≡ Some row) × (f row ≡ k)
 map_back f [] place k is = cc
@@ -39,224 +31,196 @@ map_same f g (row ∷ rows) each =
     let rest : map f rows ≡ map g rows = map_same f g rows (λ place other is. each (suc place) other is) in
     rw (first, rest) refl
 
--- the state of a row
-pub state_of-is : (nodes : Nodes) (width : ℕ) (rest row k : List ℕ) → length k ≡ width → Joins (IsTree nodes DEPTH) row (k ++ rest) → state_of nodes width row ≡ k
-state_of-is nodes width rest row k long joins =
-    let Taken : ℕ → Type 0 = λ n. take n (k ++ rest) ≡ k in
-    ap (take width) (joined-root nodes DEPTH row (k ++ rest) joins) ∙ subst Taken long (take_front k rest)
+both : (a b c d : List ℕ) → a ≡ b → c ≡ d → a ++ c ≡ b ++ d
+both a b c d one other = rw (one, other) refl
 
-pub state_at : (nodes : Nodes) (width : ℕ) (rest : List ℕ) (rows : List (List ℕ)) (place : ℕ) (row k : List ℕ) → slice_get rows place ≡ Some row → length k ≡ width → Joins (IsTree nodes DEPTH) row (k ++ rest) → slice_get (states_in nodes width rows) place ≡ Some k
-state_at nodes width rest rows place row k there long joins =
-    slice_get-map (state_of nodes width) rows place
-    ∙ (ap (option_map (state_of nodes width)) there ∙ ap Some (state_of-is nodes width rest row k long joins))
+-- A row is that of one state, and a state has one row.
+
+pub state_of-is : (left right : Half) (row k : List ℕ) → IsRoot left right row k → state_of left right row ≡ k
+state_of-is left right row k root =
+    let front = words_at-is left (root.pair / 2 ^ 32) root.front root.front_is in
+    let back = words_at-is right (root.pair % 2 ^ 32) root.back root.back_is in
+    ap (state_of left right) root.row_is
+    ∙ (both (words_at left (root.pair / 2 ^ 32)) root.front (words_at right (root.pair % 2 ^ 32)) root.back front back
+    ∙ sym root.whole)
+
+pub state_at : (left right : Half) (rows : List (List ℕ)) (place : ℕ) (row k : List ℕ) → slice_get rows place ≡ Some row → IsRoot left right row k → slice_get (states_in left right rows) place ≡ Some k
+state_at left right rows place row k there root =
+    slice_get-map (state_of left right) rows place
+    ∙ (ap (option_map (state_of left right)) there ∙ ap Some (state_of-is left right row k root))
+
+abbrev pub AreRoots : Half → Half → List (List ℕ) → Type 0
+AreRoots left right rows = AllAre (λ row. (state : List ℕ) × IsRoot left right row state) rows
 
 -- the row of a state
-pub root_at : (nodes : Nodes) (width : ℕ) (rest : List ℕ) (rows : List (List ℕ)) (place : ℕ) (k : List ℕ) → AllAre (IsRoot nodes width rest) rows → slice_get (states_in nodes width rows) place ≡ Some k → (row : List ℕ) × (slice_get rows place ≡ Some row) × (length k ≡ width) × Joins (IsTree nodes DEPTH) row (k ++ rest)
-root_at nodes width rest rows place k valid is =
-    let (row, there, of) = map_back (state_of nodes width) rows place k is in
-    let root = valid place row there in
-    let e : root.state ≡ k = sym (state_of-is nodes width rest row root.state root.long root.joins) ∙ of in
-    let Long : List ℕ → Type 0 = λ l. length l ≡ width in
-    let Is : List ℕ → Type 0 = λ l. Joins (IsTree nodes DEPTH) row (l ++ rest) in
-    (row, there, subst Long e root.long, subst Is e root.joins)
+pub root_at : (left right : Half) (rows : List (List ℕ)) (place : ℕ) (k : List ℕ) → AreRoots left right rows → slice_get (states_in left right rows) place ≡ Some k → (row : List ℕ) × (slice_get rows place ≡ Some row) × IsRoot left right row k
+root_at left right rows place k valid is =
+    let (row, there, of) = map_back (state_of left right) rows place k is in
+    let (state, root) = valid place row there in
+    let e : state ≡ k = sym (state_of-is left right row state root) ∙ of in
+    (row, there, subst (IsRoot left right row) e root)
 
-pub states_apart : (nodes : Nodes) (width : ℕ) (rest : List ℕ) (rows : List (List ℕ)) → IsExact nodes → AllAre (IsRoot nodes width rest) rows → AreApart rows → AreApart (states_in nodes width rows)
-states_apart nodes width rest rows exact valid apart first second k one other =
-    let (row, there, long, joins) = root_at nodes width rest rows first k valid one in
-    let (row', there', long', joins') = root_at nodes width rest rows second k valid other in
-    let e : row ≡ row' = same_root nodes DEPTH row row' (k ++ rest) exact joins joins' in
+pub same_root : (left right : Half) (row row' k : List ℕ) → IsExact left.nodes → IsExact right.nodes → IsRoot left right row k → IsRoot left right row' k → row ≡ row'
+same_root left right row row' k exact exact' one other =
+    let whole : one.front ++ one.back ≡ other.front ++ other.back = sym one.whole ∙ other.whole in
+    let parts = split_append one.front one.back other.front other.back (one.front_is.long ∙ sym other.front_is.long) whole in
+    let front = same_number left (one.pair / 2 ^ 32) (other.pair / 2 ^ 32) other.front exact (subst (IsNumber left (one.pair / 2 ^ 32)) parts.0 one.front_is) other.front_is in
+    let back = same_number right (one.pair % 2 ^ 32) (other.pair % 2 ^ 32) other.back exact' (subst (IsNumber right (one.pair % 2 ^ 32)) parts.1 one.back_is) other.back_is in
+    one.row_is ∙ (ap (λ pair. pair ∷ []) (same_word one.pair other.pair front back) ∙ sym other.row_is)
+
+states_apart : (left right : Half) (rows : List (List ℕ)) → IsExact left.nodes → IsExact right.nodes → AreRoots left right rows → AreApart rows → AreApart (states_in left right rows)
+states_apart left right rows exact exact' valid apart first second k one other =
+    let (row, there, root) = root_at left right rows first k valid one in
+    let (row', there', root') = root_at left right rows second k valid other in
+    let e : row ≡ row' = same_root left right row row' k exact exact' root root' in
     apart first second row' (there ∙ ap Some e) there'
 
--- nodes that hold the others keep the states
-pub AllAre-held : (old new : Nodes) (width : ℕ) (rest : List ℕ) (rows : List (List ℕ)) → IsHeld old new → AllAre (IsRoot old width rest) rows → AllAre (IsRoot new width rest) rows
-AllAre-held old new width rest rows held valid place row there =
-    let root = valid place row there in
-    record { state = root.state; long = root.long; joins = Joins-held old new DEPTH row (root.state ++ rest) held root.joins }
-
-pub states_held : (old new : Nodes) (width : ℕ) (rest : List ℕ) (rows : List (List ℕ)) → IsHeld old new → AllAre (IsRoot old width rest) rows → states_in new width rows ≡ states_in old width rows
-states_held old new width rest rows held valid = map_same (state_of new width) (state_of old width) rows (λ place row there.
-    let root = valid place row there in
-    let joins = Joins-held old new DEPTH row (root.state ++ rest) held root.joins in
-    state_of-is new width rest row root.state root.long joins ∙ sym (state_of-is old width rest row root.state root.long root.joins))
-
--- What is kept in memory.
-
-pub IsStored-start : (width part room size : ℕ) (roots : Packed) (nodes : Nodes) (origins : List Origin) (capacity : ℕ) (words : List ℕ)
-    → roots ≡ no_rows 1 room
-    → nodes ≡ no_nodes part 64
-    → origins ≡ []
-    → room ≤ capacity
-    → length words ≡ 8 * part
-    → width ≤ 8 * part
-    → IsStored width roots nodes origins capacity words
-IsStored-start width part room size roots nodes origins capacity words roots_is nodes_is origins_is reserved long wide = rw (roots_is, nodes_is, origins_is) (record {
-  one = refl;
-  apart = λ i j k one other. cc;
-  exact = record { parts = λ i j k one other. cc; pairs = λ i j k one other. cc; one = refl };
-  long = omega (arith, long);
-  wide = omega (arith, long);
-  valid = λ place row is. cc;
-  paired = refl;
-  reserved = reserved;
-})
-
 -- the states are apart
-pub stored_apart : (width : ℕ) (roots : Packed) (nodes : Nodes) (origins : List Origin) (capacity : ℕ) (words : List ℕ) → IsStored width roots nodes origins capacity words → AreApart (states_in nodes width roots.rows)
-stored_apart width roots nodes origins capacity words stored = states_apart nodes width (drop width words) roots.rows stored.exact stored.valid stored.apart
+pub stored_apart : (roots : Reached) (left right : Half) → IsStored roots left right → AreApart roots.states → AreApart (states_in left right roots.states)
+stored_apart roots left right stored apart = states_apart left right roots.states stored.left_half.exact stored.right_half.exact stored.valid apart
 
--- other words with the same rest, and nodes that hold the others
-pub IsStored-held : (width : ℕ) (roots : Packed) (nodes nodes' : Nodes) (origins : List Origin) (capacity : ℕ) (words words' : List ℕ)
-    → IsStored width roots nodes origins capacity words
-    → IsHeld nodes nodes' → IsExact nodes'
-    → length words' ≡ length words → drop width words' ≡ drop width words
-    → IsStored width roots nodes' origins capacity words'
-IsStored-held width roots nodes nodes' origins capacity words words' old held exact long rest =
-    let Valid : List ℕ → Type 0 = λ r. AllAre (IsRoot nodes' width r) roots.rows in
-    record {
-      one = old.one;
-      apart = old.apart;
-      exact = exact;
-      long = rw held.width (long ∙ old.long);
-      wide = omega (arith, long, old.wide);
-      valid = subst Valid (sym rest) (AllAre-held nodes nodes' width (drop width words) roots.rows held old.valid);
-      paired = old.paired;
-      reserved = old.reserved;
-    }
+-- the number of a half in each row
+pub left_rows : (roots : Reached) (left right : Half) → IsStored roots left right → AllAre (HasHalf left) roots.states
+left_rows roots left right stored place row there =
+    let (state, root) = stored.valid place row there in
+    let Number : ℕ → Type 0 = λ n. IsNumber left n root.front in
+    record { pair = root.pair; words = root.front; row_is = root.row_is; number = subst Number (ap (λ side. number_on side root.pair) (sym stored.left_side)) root.front_is }
 
--- the words of a state, put before the rest
-pub fronted : (width : ℕ) (words k words' : List ℕ) → length k ≡ width → width ≤ length words → words' ≡ k ++ drop (length k) words → (length words' ≡ length words) × (drop width words' ≡ drop width words) × (words' ≡ k ++ drop width words)
-fronted width words k words' long wide is =
-    let Is : ℕ → Type 0 = λ n. words' ≡ k ++ drop n words in
-    let at : words' ≡ k ++ drop width words = subst Is long is in
-    let Rest : ℕ → Type 0 = λ n. drop n (k ++ drop width words) ≡ drop width words in
-    (ap length at ∙ omega (arith, length-append k (drop width words), length-drop width words), ap (drop width) at ∙ subst Rest long (drop_front k (drop width words)), at)
+pub right_rows : (roots : Reached) (left right : Half) → IsStored roots left right → AllAre (HasHalf right) roots.states
+right_rows roots left right stored place row there =
+    let (state, root) = stored.valid place row there in
+    let Number : ℕ → Type 0 = λ n. IsNumber right n root.back in
+    record { pair = root.pair; words = root.back; row_is = root.row_is; number = subst Number (ap (λ side. number_on side root.pair) (sym stored.right_side)) root.back_is }
 
-pub IsStored-same : (width : ℕ) (roots roots' : Packed) (nodes : Nodes) (origins : List Origin) (capacity : ℕ) (words : List ℕ)
-    → roots' ≡ roots → IsStored width roots nodes origins capacity words → IsStored width roots' nodes origins capacity words
-IsStored-same width roots roots' nodes origins capacity words same stored =
-    let Stored : Packed → Type 0 = λ r. IsStored width r nodes origins capacity words in
-    subst Stored (sym same) stored
+-- the halves of the state at a place
+pub root_here : (roots : Reached) (left right : Half) (place pair : ℕ) → IsStored roots left right → slice_get roots.states place ≡ Some (pair ∷ [])
+    → (front : List ℕ) × (back : List ℕ) × IsNumber left (pair / 2 ^ 32) front × IsNumber right (pair % 2 ^ 32) back
+root_here roots left right place pair stored there =
+    let (state, root) = stored.valid place (pair ∷ []) there in
+    let e : root.pair ≡ pair = sym (same_head pair root.pair root.row_is) in
+    let Front : ℕ → Type 0 = λ n. IsNumber left (n / 2 ^ 32) root.front in
+    let Back : ℕ → Type 0 = λ n. IsNumber right (n % 2 ^ 32) root.back in
+    (root.front, root.back, subst Front e root.front_is, subst Back e root.back_is)
+  where
+    same_head : (a b : ℕ) → a ∷ [] ≡ b ∷ [] → a ≡ b
+    same_head a b same = cc
 
-pub IsStored-enter : (width : ℕ) (roots roots' : Packed) (nodes : Nodes) (origins origins' : List Origin) (origin : Origin) (capacity capacity' number : ℕ) (words k row : List ℕ)
-    → IsStored width roots nodes origins capacity words
-    → length k ≡ width
-    → Joins (IsTree nodes DEPTH) row (k ++ drop width words)
-    → IsEntered roots row (New number) roots'
-    → origins' ≡ origins ++ origin ∷ []
-    → capacity' ≡ capacity
-    → IsStored width roots' nodes origins' capacity' words
-IsStored-enter width roots roots' nodes origins origins' origin capacity capacity' number words k row old long joins entered origins_are same = rw (entered.3, origins_are, same) (record {
-  one = old.one;
-  apart = AreApart-push roots.rows row old.apart entered.0;
-  exact = old.exact;
-  long = old.long;
-  wide = old.wide;
-  valid = λ place other there. elim (last_or_before roots.rows row place other there) [
-    | inl before ↦ old.valid place other before
-    | inr last ↦ subst (IsRoot nodes width (drop width words)) last.1 (record { state = k; long = long; joins = joins })
-  ];
-  paired = omega (arith, length-append origins (origin ∷ []), length-append roots.rows (row ∷ []), old.paired);
-  reserved = old.reserved;
-})
+-- the root of a state whose halves are numbered
+pub IsRoot-numbered : (left right : Half) (pair : ℕ) (front back state : List ℕ) → IsNumber left (pair / 2 ^ 32) front → IsNumber right (pair % 2 ^ 32) back → state ≡ front ++ back → IsRoot left right (pair ∷ []) state
+IsRoot-numbered left right pair front back state front_is back_is whole = record { pair = pair; front = front; back = back; row_is = refl; front_is = front_is; back_is = back_is; whole = whole }
 
--- words that were lent and given back
-pub given_back : (len : ℕ) (new old : List ℕ) → len ≡ length old → length new ≡ length old → take len (new ++ drop (length new) old) ≡ new
-given_back len new old long same =
-    let e : length new ≡ len = same ∙ sym long in
-    let Is : ℕ → Type 0 = λ n. take n (new ++ drop (length new) old) ≡ new in
-    subst Is e (take_front new (drop (length new) old))
+-- Halves that still have what they had.
 
--- the words of a state, put before the rest of words that were lent
-pub fronted_back : (width len : ℕ) (words lent k put : List ℕ) → length k ≡ width → width ≤ length words → length lent ≡ len → lent ≡ words → put ≡ k ++ drop (length k) lent
-    → (length (take len (put ++ drop (length put) words)) ≡ length words)
-    × (drop width (take len (put ++ drop (length put) words)) ≡ drop width words)
-    × (take len (put ++ drop (length put) words) ≡ k ++ drop width words)
-fronted_back width len words lent k put long wide len_is lent_is put_is =
-    let at : put ≡ k ++ drop (length k) words = put_is ∙ ap (λ ws. k ++ drop (length k) ws) lent_is in
-    let split = fronted width words k put long wide at in
-    let back : take len (put ++ drop (length put) words) ≡ put = given_back len put words (sym len_is ∙ ap length lent_is) split.0 in
-    (ap length back ∙ split.0, ap (drop width) back ∙ split.1, back ∙ split.2)
+IsRoot-held : (left right left' right' : Half) (row k : List ℕ) → StillHas left left' → StillHas right right' → IsRoot left right row k → IsRoot left' right' row k
+IsRoot-held left right left' right' row k has has' root = record {
+  pair = root.pair;
+  front = root.front;
+  back = root.back;
+  row_is = root.row_is;
+  front_is = IsNumber-held left left' (root.pair / 2 ^ 32) root.front has root.front_is;
+  back_is = IsNumber-held right right' (root.pair % 2 ^ 32) root.back has' root.back_is;
+  whole = root.whole;
+}
 
--- the words of a state that were restored
-pub restored : (width : ℕ) (roots : Packed) (nodes : Nodes) (origins : List Origin) (capacity place : ℕ) (words row words' : List ℕ)
-    → IsStored width roots nodes origins capacity words
-    → slice_get roots.rows place ≡ Some row
-    → Joins (IsTree nodes DEPTH) row words'
-    → (length words' ≡ length words) × (drop width words' ≡ drop width words) × (slice_get (states_in nodes width roots.rows) place ≡ Some (take width words'))
-restored width roots nodes origins capacity place words row words' stored there joins =
-    let root = stored.valid place row there in
-    let all : words' ≡ root.state ++ drop width words = sym (joined-root nodes DEPTH row words' joins) ∙ joined-root nodes DEPTH row (root.state ++ drop width words) root.joins in
-    let Rest : ℕ → Type 0 = λ n. drop n (root.state ++ drop width words) ≡ drop width words in (
-      ap length all ∙ omega (arith, root.long, stored.wide, length-append root.state (drop width words), length-drop width words),
-      ap (drop width) all ∙ subst Rest root.long (drop_front root.state (drop width words)),
-      slice_get-map (state_of nodes width) roots.rows place ∙ (ap (option_map (state_of nodes width)) there ∙ ap (λ ws. Some (take width ws)) (joined-root nodes DEPTH row words' joins)),
-    )
+AreRoots-held : (left right left' right' : Half) (rows : List (List ℕ)) → StillHas left left' → StillHas right right' → AreRoots left right rows → AreRoots left' right' rows
+AreRoots-held left right left' right' rows has has' valid place row there =
+    let (state, root) = valid place row there in
+    (state, IsRoot-held left right left' right' row state has has' root)
 
-pub restored_back : (width : ℕ) (roots : Packed) (nodes : Nodes) (origins : List Origin) (capacity place len : ℕ) (words here lent row here' : List ℕ)
-    → IsStored width roots nodes origins capacity words
-    → length here ≡ length words
-    → slice_get roots.rows place ≡ Some row
-    → length row ≡ 1
-    → length lent ≡ len → lent ≡ here
-    → Joins (IsTree nodes DEPTH) (slice_index_or row 0 0 ∷ []) here'
-    → IsHere nodes words (take len (here' ++ drop (length here') here)) (slice_index_or row 0 0)
-    × (slice_get (states_in nodes width roots.rows) place ≡ Some (take width (take len (here' ++ drop (length here') here))))
-restored_back width roots nodes origins capacity place len words here lent row here' stored as_long there one len_is lent_is joins =
-    let Is : List ℕ → Type 0 = λ r. Joins (IsTree nodes DEPTH) r here' in
-    let done = restored width roots nodes origins capacity place words row here' stored there (subst Is (sym (single row one)) joins) in
-    let back : take len (here' ++ drop (length here') here) ≡ here' = given_back len here' here (sym len_is ∙ ap length lent_is) (done.0 ∙ sym as_long) in
-    let Here : List ℕ → Type 0 = λ ws. IsHere nodes words ws (slice_index_or row 0 0) in
-    (subst Here (sym back) (record { long = done.0; joins = joins }), done.2 ∙ ap (λ ws. Some (take width ws)) (sym back))
+states_held : (left right left' right' : Half) (rows : List (List ℕ)) → StillHas left left' → StillHas right right' → AreRoots left right rows → states_in left' right' rows ≡ states_in left right rows
+states_held left right left' right' rows has has' valid = map_same (state_of left' right') (state_of left right) rows (λ place row there.
+    let (state, root) = valid place row there in
+    state_of-is left' right' row state (IsRoot-held left right left' right' row state has has' root) ∙ sym (state_of-is left right row state root))
 
--- the words that are asked for where a state is restored
-pub to_restore : (width : ℕ) (roots : Packed) (nodes : Nodes) (origins : List Origin) (capacity place : ℕ) (words here lent row : List ℕ)
-    → IsStored width roots nodes origins capacity words
-    → length here ≡ length words
-    → slice_get roots.rows place ≡ Some row
-    → length row ≡ 1
-    → lent ≡ here
-    → (k : List ℕ) × (length k ≡ length lent) × Joins (IsTree nodes DEPTH) (slice_index_or row 0 0 ∷ []) k
-to_restore width roots nodes origins capacity place words here lent row stored as_long there one lent_is =
-    let root = stored.valid place row there in
-    (root.state ++ drop width words, omega (arith, ap length lent_is, as_long, root.long, stored.wide, length-append root.state (drop width words), length-drop width words), Joins-single (IsTree nodes DEPTH) row (root.state ++ drop width words) one root.joins)
+pub IsStored-held : (roots : Reached) (left right left' right' : Half) → IsStored roots left right → StillHas left left' → StillHas right right' → IsHalf left' → IsHalf right' → IsStored roots left' right'
+IsStored-held roots left right left' right' stored has has' half half' = record {
+  left_half = half;
+  right_half = half';
+  left_side = has.side ∙ stored.left_side;
+  right_side = has'.side ∙ stored.right_side;
+  valid = AreRoots-held left right left' right' roots.states has has' stored.valid;
+}
 
-pub IsHere-held : (nodes nodes' : Nodes) (words words' here : List ℕ) (pair : ℕ) → IsHere nodes words here pair → IsHeld nodes nodes' → length words' ≡ length words → IsHere nodes' words' here pair
-IsHere-held nodes nodes' words words' here pair old held long = record { long = old.long ∙ sym long; joins = Joins-held nodes nodes' DEPTH (pair ∷ []) here held old.joins }
+pub seen_held : (roots : Reached) (left right left' right' : Half) → IsStored roots left right → StillHas left left' → StillHas right right' → seen roots left' right' ≡ seen roots left right
+seen_held roots left right left' right' stored has has' =
+    let width : left'.width + right'.width ≡ left.width + right.width = omega (arith, has.width, has'.width) in
+    let states = states_held left right left' right' roots.states has has' stored.valid in
+    let Seen : ℕ → List (List ℕ) → Reached = λ n ks. record { width = n; room = roots.room; states = ks; origins = roots.origins } in
+    ap (λ n. Seen n (states_in left' right' roots.states)) width ∙ ap (Seen (left.width + right.width)) states
+
+-- the state at a place, if these are the words of its halves
+pub state_here : (roots : Reached) (left right left' right' : Half) (place pair pair' front_number back_number : ℕ) (front back : List ℕ)
+    → IsStored roots left right → StillHas left left' → StillHas right right'
+    → slice_get roots.states place ≡ Some (pair ∷ []) → slice_get roots.states place ≡ Some (pair' ∷ [])
+    → front_number ≡ pair / 2 ^ 32 → back_number ≡ pair' % 2 ^ 32
+    → IsNumber left' front_number front → IsNumber right' back_number back
+    → slice_get (states_in left right roots.states) place ≡ Some (front ++ back)
+state_here roots left right left' right' place pair pair' front_number back_number front back stored has has' there there' high low front_is back_is =
+    let e : pair' ≡ pair = same_head pair' pair (same_Some (pair' ∷ []) (pair ∷ []) (sym there' ∙ there)) in
+    let Front : ℕ → Type 0 = λ n. IsNumber left' n front in
+    let Back : ℕ → Type 0 = λ n. IsNumber right' n back in
+    let root = IsRoot-numbered left' right' pair front back (front ++ back) (subst Front high front_is) (subst Back (low ∙ ap (λ n. n % 2 ^ 32) e) back_is) refl in
+    ap (λ ks. slice_get ks place) (sym (states_held left right left' right' roots.states has has' stored.valid)) ∙ state_at left' right' roots.states place (pair ∷ []) (front ++ back) there root
+  where
+    same_head : (a b : ℕ) → a ∷ [] ≡ b ∷ [] → a ≡ b
+    same_head a b same = cc
+
+-- the root of a state whose halves are numbered, one after the other
+pub numbered_root : (roots : Reached) (left right left' right' : Half) (front_number back_number pair : ℕ) (state : List ℕ)
+    → IsStored roots left right → StillHas left left' → StillHas right right' → length state ≡ left.width + right.width
+    → IsNumber left' front_number (part_of left.side left.width state) → IsNumber right' back_number (part_of right.side right.width state)
+    → pair / 2 ^ 32 ≡ front_number → pair % 2 ^ 32 ≡ back_number
+    → IsRoot left' right' (pair ∷ []) state
+numbered_root roots left right left' right' front_number back_number pair state stored has has' long front back high low =
+    let Front : Side → Type 0 = λ s. IsNumber left' (pair / 2 ^ 32) (part_of s left.width state) in
+    let Back : Side → Type 0 = λ s. IsNumber right' (pair % 2 ^ 32) (part_of s right.width state) in
+    let front' : IsNumber left' (pair / 2 ^ 32) (part_of left.side left.width state) = subst (λ n. IsNumber left' n (part_of left.side left.width state)) (sym high) front in
+    let back' : IsNumber right' (pair % 2 ^ 32) (part_of right.side right.width state) = subst (λ n. IsNumber right' n (part_of right.side right.width state)) (sym low) back in
+    IsRoot-numbered left' right' pair (part_of Left left.width state) (part_of Right right.width state) state
+    (subst Front stored.left_side front') (subst Back stored.right_side back') (parts_whole left.width right.width state long)
 
 -- What came of a state that was to be kept.
 
-module _ (width : ℕ) (roots : Packed) (nodes nodes' : Nodes) (origins : List Origin) (capacity : ℕ) (words k row : List ℕ)
-    (old : IsStored width roots nodes origins capacity words) (held : IsHeld nodes nodes') (exact : IsExact nodes') (long : length k ≡ width)
-    (joins : Joins (IsTree nodes' DEPTH) row (k ++ drop width words)) where
-  abbrev pub seen : Nodes → Packed → List Origin → Reached
-  seen ns rs os = record { width = width; room = rs.room; states = states_in ns width rs.rows; origins = os }
+module _ (roots roots' : Reached) (left right left' right' : Half) (row k : List ℕ) (origin : Origin)
+    (stored : IsStored roots left right) (has : StillHas left left') (has' : StillHas right right') (half : IsHalf left') (half' : IsHalf right')
+    (root : IsRoot left' right' row k) where
+  on : IsStored roots left' right'
+  on = IsStored-held roots left right left' right' stored has has' half half'
 
-  same : states_in nodes' width roots.rows ≡ states_in nodes width roots.rows
-  same = states_held nodes nodes' width (drop width words) roots.rows held old.valid
+  same : seen roots left' right' ≡ seen roots left right
+  same = seen_held roots left right left' right' stored has has'
 
   -- a state whose row is none of the rows is none of the states
-  unknown : (IsKnown roots.rows row → ⊥) → IsKnown (states_in nodes width roots.rows) k → ⊥
+  unknown : (IsKnown roots.states row → ⊥) → IsKnown (states_in left' right' roots.states) k → ⊥
   unknown new (place, is) =
-      let (other, there, _, other_joins) = root_at nodes width (drop width words) roots.rows place k old.valid is in
-      let e : other ≡ row = same_root nodes' DEPTH other row (k ++ drop width words) exact (Joins-held nodes nodes' DEPTH other (k ++ drop width words) held other_joins) joins in
+      let (other, there, other_root) = root_at left' right' roots.states place k on.valid is in
+      let e : other ≡ row = same_root left' right' other row k half.exact half'.exact other_root root in
       new (place, there ∙ ap Some e)
 
-  pub keep_known : (number : ℕ) (roots' : Packed) (origin : Origin) → IsEntered roots row (Known number) roots' → IsKept (seen nodes roots origins) k origin true (seen nodes' roots' origins)
-  keep_known number roots' origin entered =
-      let there : slice_get (states_in nodes width roots.rows) number ≡ Some k = ap (λ ks. slice_get ks number) (sym same) ∙ state_at nodes' width (drop width words) roots.rows number row k entered.0 long joins in
-      let Seen : Packed → Type 0 = λ rs. seen nodes' rs origins ≡ seen nodes roots origins in
-      inl ((number, there), subst Seen (sym entered.1) (ap (λ ks. record { width = width; room = roots.room; states = ks; origins = origins }) same))
+  kept_on : (kept : Bool) → IsKept roots row origin kept roots' → IsKept (seen roots left' right') k origin kept (seen roots' left' right')
+  kept_on true (inl ((place, there), e)) = inl ((place, state_at left' right' roots.states place row k there root), ap (λ r. seen r left' right') e)
+  kept_on true (inr (new, e)) =
+      let more : states_in left' right' (roots.states ++ row ∷ []) ≡ states_in left' right' roots.states ++ k ∷ [] =
+      map-append (state_of left' right') roots.states (row ∷ [])
+      ∙ ap (λ state. states_in left' right' roots.states ++ state ∷ []) (state_of-is left' right' row k root) in
+      inr (unknown new, ap (λ r. seen r left' right') e ∙ ap (λ states. record { width = left'.width + right'.width; room = roots.room; states = states; origins = roots.origins ++ origin ∷ [] }) more)
+  kept_on false (new, full, e) = (unknown new, length-map roots.states (state_of left' right') ∙ full, ap (λ r. seen r left' right') e)
 
-  pub keep_new : (number : ℕ) (roots' : Packed) (origin : Origin) → IsEntered roots row (New number) roots' → IsKept (seen nodes roots origins) k origin true (seen nodes' roots' (origins ++ origin ∷ []))
-  keep_new number roots' origin entered =
-      let more : states_in nodes' width (roots.rows ++ row ∷ []) ≡ states_in nodes width roots.rows ++ k ∷ [] =
-      map-append (state_of nodes' width) roots.rows (row ∷ [])
-      ∙ (ap (λ ks. ks ++ state_of nodes' width row ∷ []) same
-      ∙ ap (λ l. states_in nodes width roots.rows ++ l ∷ []) (state_of-is nodes' width (drop width words) row k long joins)) in
-      let Seen : Packed → Type 0 = λ rs. seen nodes' rs (origins ++ origin ∷ []) ≡ with_state (seen nodes roots origins) k origin in
-      inr (unknown entered.0, subst Seen (sym entered.3) (ap (λ ks. record { width = width; room = roots.room; states = ks; origins = origins ++ origin ∷ [] }) more))
+  pub IsKept-seen : (kept : Bool) → IsKept roots row origin kept roots' → IsKept (seen roots left right) k origin kept (seen roots' left' right')
+  IsKept-seen kept is =
+      let Kept : Reached → Type 0 = λ r. IsKept r k origin kept (seen roots' left' right') in
+      subst Kept same (kept_on kept is)
 
-  pub keep_full : (roots' : Packed) (origin : Origin) → IsEntered roots row Full roots' → IsKept (seen nodes roots origins) k origin false (seen nodes' roots' origins)
-  keep_full roots' origin entered =
-      let Seen : Packed → Type 0 = λ rs. seen nodes' rs origins ≡ seen nodes roots origins in
-      (unknown entered.0, length-map roots.rows (state_of nodes width) ∙ entered.1, subst Seen (sym entered.2) (ap (λ ks. record { width = width; room = roots.room; states = ks; origins = origins }) same))
+  pub IsStored-kept : (kept : Bool) → IsKept roots row origin kept roots' → IsStored roots' left' right'
+  IsStored-kept true (inl (known, e)) = subst (λ r. IsStored r left' right') (sym e) on
+  IsStored-kept true (inr (new, e)) = subst (λ r. IsStored r left' right') (sym e) (record {
+    left_half = half;
+    right_half = half';
+    left_side = on.left_side;
+    right_side = on.right_side;
+    valid = λ place other there. elim (last_or_before roots.states row place other there) [
+      | inl before ↦ on.valid place other before
+      | inr last ↦ (k, subst (λ r. IsRoot left' right' r k) last.1 root)
+    ];
+  })
+  IsStored-kept false (new, full, e) = subst (λ r. IsStored r left' right') (sym e) on

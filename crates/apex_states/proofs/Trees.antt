@@ -74,7 +74,7 @@ joined-root nodes depth row k joins = joined-is (IsTree nodes depth) (words_of n
 
 -- Words have one number.
 
-split_append : (xs ys xs' ys' : List ℕ) → length xs ≡ length xs' → xs ++ ys ≡ xs' ++ ys' → (xs ≡ xs') × (ys ≡ ys')
+pub split_append : (xs ys xs' ys' : List ℕ) → length xs ≡ length xs' → xs ++ ys ≡ xs' ++ ys' → (xs ≡ xs') × (ys ≡ ys')
 split_append [] ys [] ys' long same = (refl, same)
 split_append [] ys (x ∷ xs') ys' long same = cc
 split_append (x ∷ xs) ys [] ys' long same = cc
@@ -84,7 +84,7 @@ split_append (x ∷ xs) ys (x' ∷ xs') ys' long same =
     let deeper = split_append xs ys xs' ys' (omega arith) rest in
     (rw (first, deeper.0) refl, deeper.1)
 
-same_word : (a b : ℕ) → a / 2 ^ 32 ≡ b / 2 ^ 32 → a % 2 ^ 32 ≡ b % 2 ^ 32 → a ≡ b
+pub same_word : (a b : ℕ) → a / 2 ^ 32 ≡ b / 2 ^ 32 → a % 2 ^ 32 ≡ b % 2 ^ 32 → a ≡ b
 same_word a b high low = omega (arith, high, low)
 
 pub Joins-same : (P : ℕ → List ℕ → Type 0) (row row' words : List ℕ) → ((n m : ℕ) (k : List ℕ) → P n k → P m k → n ≡ m) → Joins P row words → Joins P row' words → row ≡ row'

@@ -1,6 +1,8 @@
 pub mod Batches
 pub mod Finds
+pub mod Halves
 pub mod Index
+pub mod Keeping
 pub mod Lists
 pub mod Nodes
 pub mod Registers

@@ -1,13 +1,11 @@
 -- The states that a search has reached, as contracts see them, and what is kept of them in memory.
-use Rattle.std.specs.Prelude.{◌≡◌, ℕ, ◌+◌, ◌≤◌, ◌⊎◌, Bool, true, false, List, [], ◌∷◌, ◌++◌, length, map, take, drop}
-use Rattle.apex_states.specs.declared.nodes.Nodes.{Nodes}
+use Rattle.std.specs.Prelude.{◌≡◌, ℕ, ◌+◌, ◌/◌, ◌%◌, ◌^◌, ◌⊎◌, Bool, true, false, List, [], ◌∷◌, ◌++◌, length, map}
+use Rattle.apex_states.specs.declared.halves.Half.{Half}
+use Rattle.apex_states.specs.declared.halves.Side.TheVariants.{Left, Right}
 use Rattle.apex_states.specs.declared.states.Origin.{Origin}
-use Rattle.apex_states.specs.declared.states.TheConstants.{DEPTH}
+use Rattle.apex_states.specs.Halves.{IsHalf, IsNumber, words_at}
 use Rattle.apex_states.specs.Index.{IsKnown}
-use Rattle.apex_states.specs.Nodes.{IsExact, IsTree, Joins, joined, spread, words_of}
 use Rattle.apex_states.specs.Lists.{AllAre}
-use Rattle.apex_states.specs.Registers.{AreApart}
-use Rattle.apex_states.specs.Rows.{Packed}
 
 -- how many words a state has, for how many states there is room, the states, and the origin of each
 pub record Reached : Type 0 where
@@ -21,35 +19,40 @@ abbrev pub no_states : ℕ → ℕ → Reached
 no_states width room = record { width = width; room = room; states = []; origins = [] }
 
 -- the words of the state whose halves have the numbers of this row
-abbrev pub state_of : Nodes → ℕ → List ℕ → List ℕ
-state_of nodes width row = take width (joined (words_of nodes DEPTH) row)
+abbrev pub state_of : Half → Half → List ℕ → List ℕ
+state_of left right [] = []
+state_of left right (pair ∷ _) = words_at left (pair / 2 ^ 32) ++ words_at right (pair % 2 ^ 32)
 
 -- the states of these rows
-abbrev pub states_in : Nodes → ℕ → List (List ℕ) → List (List ℕ)
-states_in nodes width rows = map (state_of nodes width) rows
+abbrev pub states_in : Half → Half → List (List ℕ) → List (List ℕ)
+states_in left right rows = map (state_of left right) rows
 
--- the row has the numbers of the halves of a state's words, with this rest behind them
-pub record IsRoot (nodes : Nodes) (width : ℕ) (rest row : List ℕ) : Type 0 where
-  pub state : List ℕ
-  pub long : length state ≡ width
-  pub joins : Joins (IsTree nodes DEPTH) row (state ++ rest)
+-- the row is the pair of the numbers of the state's halves
+pub record IsRoot (left right : Half) (row state : List ℕ) : Type 0 where
+  pub pair : ℕ
+  pub front : List ℕ
+  pub back : List ℕ
+  pub row_is : row ≡ pair ∷ []
+  pub front_is : IsNumber left (pair / 2 ^ 32) front
+  pub back_is : IsNumber right (pair % 2 ^ 32) back
+  pub whole : state ≡ front ++ back
 
--- the rows are apart, each is that of a state and has its origin, and room is taken for the rest
-pub record IsStored (width : ℕ) (roots : Packed) (nodes : Nodes) (origins : List Origin)
-    (capacity : ℕ) (words : List ℕ) : Type 0 where
-  pub one : roots.width ≡ 1
-  pub apart : AreApart roots.rows
-  pub exact : IsExact nodes
-  pub long : length words ≡ spread nodes.parts.width DEPTH + spread nodes.parts.width DEPTH
-  pub wide : width ≤ length words
-  pub valid : AllAre (IsRoot nodes width (drop width words)) roots.rows
-  pub paired : length origins ≡ length roots.rows
-  pub reserved : roots.room ≤ capacity
+-- each row is that of a state
+pub record IsStored (roots : Reached) (left right : Half) : Type 0 where
+  pub left_half : IsHalf left
+  pub right_half : IsHalf right
+  pub left_side : left.side ≡ Left
+  pub right_side : right.side ≡ Right
+  pub valid : AllAre (λ row. (state : List ℕ) × IsRoot left right row state) roots.states
 
--- the pair is that of the words that were restored last
-pub record IsHere (nodes : Nodes) (words here : List ℕ) (pair : ℕ) : Type 0 where
-  pub long : length here ≡ length words
-  pub joins : Joins (IsTree nodes DEPTH) (pair ∷ []) here
+-- the states whose roots are kept
+abbrev pub seen : Reached → Half → Half → Reached
+seen roots left right = record {
+  width = left.width + right.width;
+  room = roots.room;
+  states = states_in left right roots.states;
+  origins = roots.origins;
+}
 
 -- the state is put after the others
 abbrev pub with_state : Reached → List ℕ → Origin → Reached

@@ -75,24 +75,25 @@ impl Batch {
     }
 
     /// Copies the states from the place `from` on and before `limit`, in place of those that are here.
-    /// `state` has room for the words of one. Fails only for want of memory.
+    /// Fails only for want of memory.
     pub fn copy(
         &mut self,
-        states: &mut States,
-        state: &mut [u64],
+        alloc: Global,
+        states: &States,
         from: usize,
         limit: usize,
     ) -> Result<(), AllocError>
         requires in_order { from ≤ limit }
-        requires within { limit ≤ length states.old.states }
-        requires width { self.old.width ≡ states.old.width }
-        requires state { length state.old ≡ states.old.width }
-        ensures copied { IfOk result (λ _. IsCopied states.old from limit self.new) }
-        ensures same { states.new ≡ states.old }
+        requires within { limit ≤ length states.now.states }
+        requires width { self.old.width ≡ states.now.width }
+        ensures { IfOk result (λ _. IsCopied states.now from limit self.new) }
     {
         self.begin(from);
+        let (mut left, mut right) = (Vec::new(alloc), Vec::new(alloc));
+        let mut state = vec![in alloc; 0; self.states.width()]?;
+        let state = state.as_mut_slice();
         for place in from..limit {
-            states.restore(place, state);
+            states.read(alloc, place, &mut left, &mut right, state)?;
             self.put(state)?;
         }
         Ok(())

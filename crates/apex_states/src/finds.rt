@@ -12,6 +12,9 @@ use std::marker::Model;
 /// The number of slots for states that were found a short time before.
 const SLOTS: usize = 16384;
 
+/// For at most this many states room is taken at first.
+const MOST_AT_FIRST: usize = 4096;
+
 /// States in the order in which they were found, and the origin of each. One can be there more than
 /// once, but seldom is if it was found a short time before.
 #[derive(Drop)]
@@ -38,12 +41,14 @@ impl Model for Finds {
 }
 
 impl Finds {
-    /// No states, of `width` words each. Fails only for want of memory.
-    pub fn new(alloc: Global, width: usize) -> Result<Finds, AllocError>
+    /// No states, of `width` words each. Room for some of the `expected` states is taken now, and more as
+    /// it is needed. Fails only for want of memory.
+    pub fn new(alloc: Global, width: usize, expected: usize) -> Result<Finds, AllocError>
         ensures { IfOk result (λ finds. finds ≡ no_finds width) }
     {
+        let room = expected.min(MOST_AT_FIRST) as u32;
         Ok(Finds {
-            states: Rows::empty(alloc, width),
+            states: Rows::new(alloc, width, room)?,
             origins: Vec::new(alloc),
             recent: vec![in alloc; 0; SLOTS]?,
         })

@@ -1,47 +1,98 @@
-//! States that were found are kept.
-ghost use Rattle.std.specs.Prelude.{◌≡◌, ℕ, ◌<◌, length, slice_get, Some, IfOk};
+//! States that were found are kept: their halves are numbered, by a thread for each side, and then the
+//! pairs of these numbers are entered.
+ghost use Rattle.std.specs.Prelude.{◌≡◌, length, IfOk};
 ghost use Rattle.apex_states.specs.Finds.{AreKept};
+ghost use Rattle.apex_states.specs.Halves.{IsHalf, StillHas};
+ghost use Rattle.apex_states.specs.Keeping.{roots_found, AreNumbered, ArePaired, CanNumber};
 
 use crate::finds::Finds;
-use crate::states::{Origin, States};
+use crate::halves::Half;
+use crate::pairs::Pair;
+use crate::roots::Roots;
 use std::alloc::{AllocError, Global};
+use std::thread::{Threads, join_mut};
 
-/// Restores the parent of the state that was found at the place, unless it is that of the one before: a
-/// state is nearly its parent, and what they have in common is not looked up.
-fn restore_parent(states: &mut States, state: &mut [u64], finds: &Finds, place: usize)
-    requires place { place < length finds.now.states }
-    requires state { length state.old ≡ states.old.width }
-    requires parent { (origin : Origin) → slice_get finds.now.origins place ≡ Some origin
-        → origin.parent < length states.old.states }
-    ensures { states.new ≡ states.old }
+/// The number of the half of each state that was found, in order. Of each, what it has in common with
+/// that of its parent is not looked up. Fails only for want of memory.
+fn number_all(
+    alloc: Global,
+    half: &mut Half,
+    roots: &Roots,
+    finds: &Finds,
+) -> Result<Vec<u32>, AllocError>
+    requires { CanNumber half.old roots.now finds.now }
+    ensures numbers { IfOk result (λ numbers. AreNumbered half.new finds.now numbers.items) }
+    ensures held { StillHas half.old half.new }
+    ensures half { IsHalf half.new }
 {
-    let parent = finds.origin(place).parent;
-    if place == 0 || finds.origin(place - 1).parent != parent {
-        states.restore(parent as usize, state);
+    let mut numbers = Vec::with_capacity(alloc, finds.len())?;
+    for place in 0..finds.len() {
+        let parent = finds.origin(place).parent as usize;
+        half.restore(roots.number(parent, half.side()));
+        numbers.push(half.number(alloc, finds.state(place))?)?;
     }
+    Ok(numbers)
 }
 
-/// Keeps the states that were found, in order, until there is no room for one: false then. `state` has
-/// room for the words of one. Fails only for want of memory.
-pub fn keep_all(
+/// The numbers of the left and of the right half of each state that was found. Fails only for want of
+/// memory.
+pub(crate) fn number_both<R: Threads>(
+    rt: &R,
     alloc: Global,
-    states: &mut States,
-    state: &mut [u64],
+    left: &mut Half,
+    right: &mut Half,
+    roots: &Roots,
     finds: &Finds,
-) -> Result<bool, AllocError>
-    requires paired { length states.old.origins ≡ length states.old.states }
-    requires width { finds.now.width ≡ states.old.width }
-    requires state { length state.old ≡ states.old.width }
-    requires parents { (place : ℕ) (origin : Origin) → slice_get finds.now.origins place ≡ Some origin
-        → origin.parent < length states.old.states }
-    ensures { IfOk result (AreKept finds.now states.old states.new) }
+) -> Result<(Vec<u32>, Vec<u32>), AllocError>
+    requires left { CanNumber left.old roots.now finds.now }
+    requires right { CanNumber right.old roots.now finds.now }
+    ensures lefts { IfOk result (λ numbers. AreNumbered left.new finds.now numbers.0.items) }
+    ensures rights { IfOk result (λ numbers. AreNumbered right.new finds.now numbers.1.items) }
+    ensures held_left { StillHas left.old left.new }
+    ensures held_right { StillHas right.old right.new }
+    ensures left { IsHalf left.new }
+    ensures right { IsHalf right.new }
+{
+    let mut number_left = || -> Result<Vec<u32>, AllocError>
+        requires { CanNumber left.now roots.now finds.now }
+        ensures { IfOk result (λ numbers. AreNumbered left.exit.now finds.entry.now numbers.items)
+            × StillHas left.entry.now left.exit.now × IsHalf left.exit.now }
+    { number_all(alloc, left, roots, finds) };
+    let mut number_right = || -> Result<Vec<u32>, AllocError>
+        requires { CanNumber right.now roots.now finds.now }
+        ensures { IfOk result (λ numbers. AreNumbered right.exit.now finds.entry.now numbers.items)
+            × StillHas right.entry.now right.exit.now × IsHalf right.exit.now }
+    { number_all(alloc, right, roots, finds) };
+    let (lefts, rights) = join_mut(rt, &mut number_left, &mut number_right);
+    Ok((lefts?, rights?))
+}
+
+/// The pairs of these numbers. Fails only for want of memory.
+pub(crate) fn pair_all(alloc: Global, lefts: &[u32], rights: &[u32]) -> Result<Vec<u64>, AllocError>
+    requires { length rights.now ≡ length lefts.now }
+    ensures { IfOk result (λ pairs. ArePaired lefts.now rights.now pairs.items) }
+{
+    let mut pairs = Vec::with_capacity(alloc, lefts.len())?;
+    for place in 0..lefts.len() {
+        let pair = Pair {
+            left: lefts[place],
+            right: rights[place],
+        };
+        pairs.push(pair.word())?;
+    }
+    Ok(pairs)
+}
+
+/// Enters the pairs of the states that were found, in order, until there is no room for one: false then.
+pub(crate) fn enter_all(roots: &mut Roots, pairs: &[u64], finds: &Finds) -> bool
+    requires paired { length roots.old.origins ≡ length roots.old.states }
+    requires count { length pairs.now ≡ length finds.now.states }
+    ensures { AreKept (roots_found pairs.now finds.now) roots.old roots.new result }
 {
     for place in 0..finds.len() {
-        restore_parent(states, state, finds, place);
-        let origin = finds.origin(place);
-        if !states.keep(alloc, finds.state(place), origin)? {
-            return Ok(false);
+        if !roots.enter(pairs[place], finds.origin(place)) {
+            return false;
         }
     }
-    Ok(true)
+    true
 }

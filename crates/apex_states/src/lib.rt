@@ -4,15 +4,17 @@
 
 mod batches;
 mod finds;
+mod halves;
 mod index;
 mod keeping;
 mod nodes;
+mod pairs;
 mod registers;
+mod roots;
 mod rows;
 mod states;
 mod words;
 
 pub use batches::Batch;
 pub use finds::Finds;
-pub use keeping::keep_all;
 pub use states::{Origin, States};

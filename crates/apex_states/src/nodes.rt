@@ -1,43 +1,16 @@
 //! Words as trees. A row of words is cut in halves, each half again, and so on down to parts of a
 //! few words. Each part and each pair of halves is kept once, so rows that share halves share their
 //! memory.
-ghost use Rattle.std.specs.Prelude.{◌≡◌, ℕ, ◌+◌, ◌^◌, ◌/◌, ◌%◌, List, [], ◌∷◌, length, IfOk};
+ghost use Rattle.std.specs.Prelude.{◌≡◌, ℕ, ◌+◌, List, [], ◌∷◌, length, IfOk};
 ghost use Rattle.apex_states.specs.Nodes.{IsExact, IsHeld, IsTree, Joins, no_nodes, spread};
 
+use crate::pairs::Pair;
 use crate::registers::Register;
 use crate::words::are_same;
 use std::alloc::{AllocError, Global};
 
 /// The room for parts and for pairs at first.
 const FIRST_ROOM: u32 = 64;
-
-/// The numbers of two halves.
-#[derive(Clone, Copy)]
-struct Pair {
-    left: u32,
-    right: u32,
-}
-
-impl Pair {
-    /// The numbers in a word.
-    fn of(word: u64) -> Pair
-        ensures left { result.left ≡ word / 2 ^ 32 }
-        ensures right { result.right ≡ word % 2 ^ 32 }
-    {
-        Pair {
-            left: (word / 0x1_0000_0000) as u32,
-            right: (word % 0x1_0000_0000) as u32,
-        }
-    }
-
-    /// Both numbers in one word.
-    fn word(self) -> u64
-        ensures left { result / 2 ^ 32 ≡ self.left }
-        ensures right { result % 2 ^ 32 ≡ self.right }
-    {
-        u64::from(self.left) * 0x1_0000_0000 + u64::from(self.right)
-    }
-}
 
 /// The parts of all rows, and the pairs of numbers of two halves. The number of a half that is a
 /// part is that of the part, and else that of its pair.
@@ -60,7 +33,12 @@ impl Nodes {
 
     /// The number of the tree of these words. Fails only for want of memory.
     #[cycle(numbers)]
-    fn number(&mut self, alloc: Global, depth: u32, words: &[u64]) -> Result<u32, AllocError>
+    pub(crate) fn number(
+        &mut self,
+        alloc: Global,
+        depth: u32,
+        words: &[u64],
+    ) -> Result<u32, AllocError>
         requires exact { IsExact self.old }
         requires words { length words.now ≡ spread self.old.parts.width depth }
         ensures number { IfOk result (λ number. IsTree self.new depth number words.now) }
@@ -77,12 +55,7 @@ impl Nodes {
     /// The numbers of the trees of both halves of these words, in one word; `depth` is that of a
     /// half. Fails only for want of memory.
     #[cycle(numbers)]
-    pub(crate) fn number_halves(
-        &mut self,
-        alloc: Global,
-        depth: u32,
-        words: &[u64],
-    ) -> Result<u64, AllocError>
+    fn number_halves(&mut self, alloc: Global, depth: u32, words: &[u64]) -> Result<u64, AllocError>
         requires exact { IsExact self.old }
         requires words { length words.now
             ≡ spread self.old.parts.width depth + spread self.old.parts.width depth }
@@ -100,7 +73,7 @@ impl Nodes {
     /// The number of the tree of these words, which are nearly these known ones: what they have in
     /// common is not looked up. Fails only for want of memory.
     #[cycle(likes)]
-    fn number_like(
+    pub(crate) fn number_like(
         &mut self,
         alloc: Global,
         depth: u32,
@@ -131,7 +104,7 @@ impl Nodes {
     /// known ones, whose numbers are in `pair`; `depth` is that of a half. Fails only for want of
     /// memory.
     #[cycle(likes)]
-    pub(crate) fn number_halves_like(
+    fn number_halves_like(
         &mut self,
         alloc: Global,
         depth: u32,
@@ -159,7 +132,7 @@ impl Nodes {
 
     /// Puts the words of the tree with this number into these.
     #[cycle(trees)]
-    fn restore(&self, depth: u32, number: u32, words: &mut [u64])
+    pub(crate) fn restore(&self, depth: u32, number: u32, words: &mut [u64])
         requires exact { IsExact self.now }
         requires tree { (k : List ℕ) × (length k ≡ length words.old)
             × IsTree self.now depth number k }
@@ -175,7 +148,7 @@ impl Nodes {
     /// Puts the words of both trees with the numbers in this word into these; `depth` is that of a
     /// half.
     #[cycle(trees)]
-    pub(crate) fn restore_halves(&self, depth: u32, word: u64, words: &mut [u64])
+    fn restore_halves(&self, depth: u32, word: u64, words: &mut [u64])
         requires exact { IsExact self.now }
         requires halves { (k : List ℕ) × (length k ≡ length words.old)
             × Joins (IsTree self.now depth) (word ∷ []) k }

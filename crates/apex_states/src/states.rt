@@ -1,27 +1,17 @@
 //! The states that a search has reached, and where each of them comes from.
-ghost use Rattle.std.specs.Prelude.{◌≡◌, ◌^◌, ◌<◌, ◌≤◌, ◌++◌, true, drop, length, slice_get, Some, IfOk};
+ghost use Rattle.std.specs.Prelude.{◌≡◌, ℕ, ◌^◌, ◌<◌, ◌≤◌, length, slice_get, Some, IfOk};
+ghost use Rattle.apex_states.specs.Finds.{AreKept};
 ghost use Rattle.apex_states.specs.Registers.{AreApart};
-ghost use Rattle.apex_states.specs.Index.{IsKnown};
 ghost use Rattle.apex_states.specs.States.{no_states, IsKept};
 
-use crate::nodes::Nodes;
-use crate::registers::{Entered, Register};
+use crate::finds::Finds;
+use crate::halves::{Half, Side};
+use crate::keeping::{enter_all, number_both, pair_all};
+use crate::pairs::Pair;
+use crate::roots::Roots;
 use std::alloc::{AllocError, Global};
 use std::marker::Model;
-
-/// How many pairs lie above a part in each half of a state.
-const DEPTH: u32 = 2;
-
-/// The parts of a state: 2 ^ `DEPTH` in each half.
-const PARTS: usize = 8;
-
-/// Puts these words in place of the first ones.
-fn put_front(words: &mut [u64], front: &[u64])
-    requires { length front.now ≤ length words.old }
-    ensures { words.new ≡ front.now ++ drop (length front.now) words.old }
-{
-    words[..front.len()].copy_from_slice(front);
-}
+use std::thread::Threads;
 
 /// The choice by which a state was found, and the place of the state that it was made in.
 #[derive(Clone, Copy)]
@@ -36,34 +26,19 @@ pub struct Origin {
 /// the pairs, their index and the origins is taken when the value is made; that for the trees grows.
 #[derive(Drop)]
 pub struct States {
-    width: usize,
-    roots: Register,
-    nodes: Nodes,
-    origins: Vec<Origin>,
-    /// The words of a state, and some more that never change, so that all are cut into equal parts.
-    words: Vec<u64>,
-    /// Those of the state that was restored last. A state that is kept next is nearly this one.
-    here: Vec<u64>,
-    /// The numbers of its halves.
-    pair: u64,
+    roots: Roots,
+    left: Half,
+    right: Half,
 }
 
 impl Model for States {
-    ghost use Rattle.std.specs.Prelude.{vec_capacity};
-    ghost use Rattle.apex_states.specs.States.{Reached, IsHere, IsStored, states_in};
+    ghost use Rattle.apex_states.specs.States.{Reached, IsStored, seen};
 
     ghost Value = { Reached };
 
-    ghost view = { λ s. record {
-      width = s.width;
-      room = s.roots.room;
-      states = states_in s.nodes s.width s.roots.rows;
-      origins = s.origins.items;
-    } };
+    ghost view = { λ s. seen s.roots s.left s.right };
 
-    ghost invariant = { λ s.
-        IsStored s.width s.roots s.nodes s.origins.items (vec_capacity s.origins) s.words.items
-        × IsHere s.nodes s.words.items s.here.items s.pair };
+    ghost invariant = { λ s. IsStored s.roots s.left s.right };
 }
 
 impl States {
@@ -72,24 +47,11 @@ impl States {
     pub fn new(alloc: Global, width: usize, room: u32) -> Result<States, AllocError>
         ensures { IfOk result (λ states. states ≡ no_states width room) }
     {
-        let part = width / PARTS + 1;
-        let Some(size) = part.checked_mul(PARTS) else {
-            return Err(AllocError);
-        };
-        let roots = Register::new(alloc, 1, room)?;
-        let mut nodes = Nodes::new(alloc, part)?;
-        let words = vec![in alloc; 0; size]?;
-        let here = vec![in alloc; 0; size]?;
-        let pair = nodes.number_halves(alloc, DEPTH, here.as_slice())?;
-        let origins = Vec::with_capacity(alloc, room as usize)?;
+        let middle = width / 2;
         Ok(States {
-            width,
-            roots,
-            nodes,
-            origins,
-            words,
-            here,
-            pair,
+            roots: Roots::new(alloc, room)?,
+            left: Half::new(alloc, Side::Left, middle)?,
+            right: Half::new(alloc, Side::Right, width - middle)?,
         })
     }
 
@@ -103,25 +65,48 @@ impl States {
         self.roots.len()
     }
 
-    /// Puts the words of the state at the place into these.
+    /// Puts the words of the state at the place into these. States that are kept next are nearly
+    /// that one.
     pub fn restore(&mut self, place: usize, state: &mut [u64])
         requires place { place < length self.old.states }
         requires width { length state.old ≡ self.old.width }
         ensures state { slice_get self.old.states place ≡ Some state.new }
         ensures same { self.new ≡ self.old }
     {
-        let word = self.roots.row(place)[0];
-        self.nodes
-            .restore_halves(DEPTH, word, self.here.as_mut_slice());
-        self.pair = word;
-        state.copy_from_slice(&self.here.as_slice()[..self.width]);
+        self.left.restore(self.roots.number(place, Side::Left));
+        self.right.restore(self.roots.number(place, Side::Right));
+        let (front, back) = state.split_at_mut(self.left.width());
+        front.copy_from_slice(self.left.words());
+        back.copy_from_slice(self.right.words());
+    }
+
+    /// Puts the words of the state at the place into these. `left` and `right` are room for its trees.
+    /// Fails only for want of memory.
+    pub(crate) fn read(
+        &self,
+        alloc: Global,
+        place: usize,
+        left: &mut Vec<u64>,
+        right: &mut Vec<u64>,
+        state: &mut [u64],
+    ) -> Result<(), AllocError>
+        requires place { place < length self.now.states }
+        requires width { length state.old ≡ self.now.width }
+        ensures { IfOk result (λ _. slice_get self.now.states place ≡ Some state.new) }
+    {
+        let front_number = self.roots.number(place, Side::Left);
+        let back_number = self.roots.number(place, Side::Right);
+        let (front, back) = state.split_at_mut(self.left.width());
+        self.left.read(alloc, front_number, left, front)?;
+        self.right.read(alloc, back_number, right, back)?;
+        Ok(())
     }
 
     /// The origin of each state.
     pub fn origins(&self) -> &[Origin]
         ensures { result.now ≡ self.now.origins }
     {
-        self.origins.as_slice()
+        self.roots.origins()
     }
 
     /// Keeps the state as the last one if it is not there yet: false if there is no room for it.
@@ -130,18 +115,28 @@ impl States {
         requires { length state.now ≡ self.old.width }
         ensures { IfOk result (λ kept. IsKept self.old state.now origin kept self.new) }
     {
-        put_front(self.words.as_mut_slice(), state);
-        let (words, here) = (self.words.as_slice(), self.here.as_slice());
-        let word = self
-            .nodes
-            .number_halves_like(alloc, DEPTH, words, here, self.pair)?;
-        match self.roots.enter(&[word]) {
-            Entered::Known(_) => Ok(true),
-            Entered::New(_) => {
-                self.origins.push_reserved(origin);
-                Ok(true)
-            }
-            Entered::Full => Ok(false),
-        }
+        let left = self.left.number(alloc, state)?;
+        let right = self.right.number(alloc, state)?;
+        Ok(self.roots.enter(Pair { left, right }.word(), origin))
+    }
+
+    /// Keeps the states that were found, in order, until there is no room for one: false then. Fails only
+    /// for want of memory.
+    pub fn keep_all<R: Threads>(
+        &mut self,
+        rt: &R,
+        alloc: Global,
+        finds: &Finds,
+    ) -> Result<bool, AllocError>
+        requires paired { length self.old.origins ≡ length self.old.states }
+        requires width { finds.now.width ≡ self.old.width }
+        requires parents { (place : ℕ) (origin : Origin) → slice_get finds.now.origins place ≡ Some origin
+            → origin.parent < length self.old.states }
+        ensures { IfOk result (AreKept finds.now self.old self.new) }
+    {
+        let (left, right) = (&mut self.left, &mut self.right);
+        let (lefts, rights) = number_both(rt, alloc, left, right, &self.roots, finds)?;
+        let pairs = pair_all(alloc, lefts.as_slice(), rights.as_slice())?;
+        Ok(enter_all(&mut self.roots, pairs.as_slice(), finds))
     }
 }

@@ -21,7 +21,7 @@ gather-requires g c = λ place desk is.
     let each : (at : ℕ) (d : Desk g.row.W.Denot) → at < length c.args.desks.now → Made (get_or c.args.desks.now at d) (get_or c.for_each_mut.new.s at d) = λ at d short.
     let change = (c.for_each_mut.ensures at d short).1 in
     subst (Made (get_or c.args.desks.now at d)) change.left (subst (λ x. Made x change.after_call.now) change.argument_is change.call) in
-    let was = left_from Made c.args.desks.now c.for_each_mut.new.s c.for_each_mut.auto.s each place desk is in
+    let was = left_from (λ at. Made) c.args.desks.now c.for_each_mut.new.s c.for_each_mut.auto.s each place desk is in
     (was.0.batch, was.2)
 
 pub returns-clause-expansions : goal.returns-clause-expansions
@@ -31,5 +31,5 @@ returns-clause-expansions g c =
     let each : (at : ℕ) (d : Desk g.row.W.Denot) → at < length c.args.desks.now → Made (get_or c.args.desks.now at d) (get_or c.for_each_mut.new.s at d) = λ at d short.
     let change = (c.for_each_mut.ensures at d short).1 in
     subst (Made (get_or c.args.desks.now at d)) change.left (subst (λ x. Made x change.after_call.now) change.argument_is change.call) in
-    let made = left_of Made c.args.desks.now c.for_each_mut.new.s c.for_each_mut.auto.s each in
+    let made = left_of (λ at. Made) c.args.desks.now c.for_each_mut.new.s c.for_each_mut.auto.s each in
     IfOk-weaker c.gather.result (λ expansions. AreGathered c.for_each_mut.new.s expansions.items) _ (λ expansions. AreExpansions-gathered step (g.S.System.word_count c.args.system.now) (g.S.System.is_state c.args.system.now) (g.S.System.is_workspace c.args.system.now) c.args.desks.now c.for_each_mut.new.s made c.for_each_mut.auto.s expansions.items) c.gather.ensures.gathered

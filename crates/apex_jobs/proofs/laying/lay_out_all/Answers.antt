@@ -1,47 +1,41 @@
--- States that are laid out, one desk after the other.
-use Rattle.std.proofs.Common.{◌≡◌, ◌+◌, ◌*◌, ◌^◌, ◌<◌, ◌≤◌, length, sym, ap, ◌∙◌, arith}
+-- States that are laid out on the desks.
+use Rattle.std.proofs.Common.{ℕ, ◌+◌, ◌*◌, ◌^◌, ◌<◌, ◌≤◌, length, Some, get_or, sym, ap, ◌∙◌, subst, arith}
 use Rattle.std.proofs.lemmas.Option.{slice_get-get_or}
-use Rattle.apex_explore.specs.Desks.{IsDesk}
-use Rattle.apex_states.specs.Batches.{IsCopied}
-use Rattle.apex_states.specs.States.{Reached}
-use Rattle.apex_jobs.proofs.Layouts.{all_set, copies_ready, same_trans, start_at, AreLaying-end, AreLaying-next}
+use Rattle.std.proofs.lemmas.Result.{IfOk-weaker}
+use Rattle.apex_explore.specs.declared.desks.Desk.{Desk}
+use Rattle.apex_states.specs.Lists.{AllAre}
+use Rattle.apex_jobs.specs.Rounds.{start_at, IsLaid, LaysOut}
+use Rattle.apex_jobs.proofs.Layouts.{desks_laid, AreLaidOut-from}
+use Rattle.apex_jobs.proofs.Rounds.{left_from}
 use Rattle.apex_jobs.proofs.laying.lay_out_all.Goals as goal
 
-pub lay_out-requires-clause-width : goal.lay_out-requires-clause-width
-lay_out-requires-clause-width g c =
-    let desk = c.index-desks-place.result in
-    let short : c.loop-place.place < length c.loop-place.desks = omega arith in
-    let here = slice_get-get_or c.loop-place.desks c.loop-place.place desk short in
-    let is = c.loop-place.invariant.desks c.loop-place.place _ here in
-    is.width ∙ sym (ap (λ (s : Reached). s.width) c.loop-place.invariant.same.states ∙ c.requires.over.width)
-
-pub loop-place-preserved : goal.loop-place-preserved
-loop-place-preserved g c =
-    let word_count = g.S.System.word_count c.args.system.now in
-    let is_workspace = g.S.System.is_workspace c.args.system.now in
-    let is_state = g.S.System.is_state c.args.system.now in
-    let reached = c.args.search.now.states in
-    let place = c.loop-place.place in
-    let desk = c.lay_out.new.desk in
-    let short : place < length c.loop-place.desks = omega arith in
-    let here = slice_get-get_or c.loop-place.desks place c.index-desks-place.result short in
-    let was = c.loop-place.invariant.desks place _ here in
-    let kept = c.in_ok-lay_out.ensures in
-    let copied : IsCopied reached (start_at c.args.from c.args.limit c.size_for-size.result place) (start_at c.args.from c.args.limit c.size_for-size.result (place + 1)) desk.batch =
-    rw (c.loop-place.invariant.same.states, c.start_of-start.ensures, c.start_of-end.ensures) at kept.copied in
-    let width : desk.batch.width ≡ word_count = copied.width ∙ c.requires.over.width in
-    let is : IsDesk word_count is_workspace desk = rw kept.desk (record { workspace = was.workspace; next = was.next; width = width }) in
-    let few : start_at c.args.from c.args.limit c.size_for-size.result (place + 1) ≤ 2 ^ 32 = rw c.start_of-end.ensures at kept.fits in
-    record {
-      same = same_trans c.args.search.now c.loop-place.search c.lay_out.new.self c.loop-place.invariant.same kept.same;
-      desks = all_set (IsDesk word_count is_workspace) c.loop-place.desks place desk c.loop-place.invariant.desks is;
-      laying = AreLaying-next is_state reached c.args.from c.args.limit c.size_for-size.result c.loop-place.desks place desk copied
-          (copies_ready is_state reached (start_at c.args.from c.args.limit c.size_for-size.result place) (start_at c.args.from c.args.limit c.size_for-size.result (place + 1)) desk c.requires.over.states few copied) c.loop-place.invariant.laying;
-    }
+pub for_each_mut-requires-clause-accepts : goal.for_each_mut-requires-clause-accepts
+for_each_mut-requires-clause-accepts g c κs within = λ i p short is.
+    let there = slice_get-get_or c.args.desks.now i p.now short ∙ ap Some (sym is) in
+    let desk = c.requires.desks i p.now there in
+    let before : i + 1 < 2 ^ 64 = omega (arith, short) in
+    (before, c.requires.in_order, c.requires.within, desk.width ∙ sym c.requires.width)
 
 pub returns-clause-laid : goal.returns-clause-laid
 returns-clause-laid g c =
-    let past : length c.loop-place.desks ≤ c.loop-place.place = omega arith in
-    let count : length c.loop-place.desks ≡ length c.args.desks.now = omega arith in
-    let size : c.args.limit ≤ c.args.from + c.size_for-size.result * length c.loop-place.desks = rw count (omega (arith, c.size_for-size.ensures, c.requires.in_order)) in
-    AreLaying-end (g.S.System.is_state c.args.system.now) c.args.search.now.states c.args.from c.args.limit c.size_for-size.result c.loop-place.desks c.loop-place.place c.requires.in_order size past c.loop-place.invariant.laying
+    let states = c.args.states.now in
+    let size = c.size_for-size.result in
+    let Laid : ℕ → Desk g.row.W.Denot → Desk g.row.W.Denot → Type 0 = λ at. LaysOut states (start_at c.args.from c.args.limit size at) (start_at c.args.from c.args.limit size (at + 1)) in
+    let each : (at : ℕ) (d : Desk g.row.W.Denot) → at < length c.args.desks.now → Laid at (get_or c.args.desks.now at d) (get_or c.for_each_mut.new.s at d) = λ at d short.
+    let change = (c.for_each_mut.ensures at d short).1 in
+    subst (Laid at (get_or c.args.desks.now at d)) change.left (subst (λ x. Laid at x change.after_call.now) change.argument_is change.call) in
+    let laid = left_from Laid c.args.desks.now c.for_each_mut.new.s c.for_each_mut.auto.s each in
+    let whole : c.args.limit ≤ c.args.from + size * length c.for_each_mut.new.s = rw c.for_each_mut.auto.s (omega (arith, c.size_for-size.ensures, c.requires.in_order)) in
+    let few : c.args.limit ≤ 2 ^ 32 = omega (arith, c.requires.within, c.len-size.ensures.len, c.len-size.ensures.room, c.len-size.ensures.few) in
+    IfOk-weaker c.all_laid.result (λ _. AllAre IsLaid c.for_each_mut.new.s) _ (λ _ all. AreLaidOut-from (g.S.System.is_state c.args.system.now) states c.args.from c.args.limit size c.args.desks.now c.for_each_mut.new.s laid all c.requires.in_order whole few c.requires.states) c.all_laid.ensures
+
+pub returns-clause-desks : goal.returns-clause-desks
+returns-clause-desks g c =
+    let states = c.args.states.now in
+    let size = c.size_for-size.result in
+    let Laid : ℕ → Desk g.row.W.Denot → Desk g.row.W.Denot → Type 0 = λ at. LaysOut states (start_at c.args.from c.args.limit size at) (start_at c.args.from c.args.limit size (at + 1)) in
+    let each : (at : ℕ) (d : Desk g.row.W.Denot) → at < length c.args.desks.now → Laid at (get_or c.args.desks.now at d) (get_or c.for_each_mut.new.s at d) = λ at d short.
+    let change = (c.for_each_mut.ensures at d short).1 in
+    subst (Laid at (get_or c.args.desks.now at d)) change.left (subst (λ x. Laid at x change.after_call.now) change.argument_is change.call) in
+    let laid = left_from Laid c.args.desks.now c.for_each_mut.new.s c.for_each_mut.auto.s each in
+    IfOk-weaker c.all_laid.result (λ _. AllAre IsLaid c.for_each_mut.new.s) _ (λ _ all. desks_laid (g.S.System.is_state c.args.system.now) states c.args.from c.args.limit size c.args.desks.now c.for_each_mut.new.s laid all (g.S.System.word_count c.args.system.now) (g.S.System.is_workspace c.args.system.now) c.requires.width c.requires.desks) c.all_laid.ensures

@@ -2,7 +2,7 @@ use Rattle.std.proofs.Common.{rules, ◌≡◌, length, sym, ap, ◌∙◌}
 use Rattle.apex_states.specs.States.{Reached}
 use Rattle.apex_explore.specs.Systems.{step_within}
 use Rattle.apex_states.specs.declared.states.Origin.{Origin}
-use Rattle.apex_states.proofs.Storing.{given_back}
+use Rattle.apex_states.proofs.Halving.{given_back}
 use Rattle.apex_explore.proofs.Weaker.{over_first, searched_first}
 use Rattle.apex_explore.proofs.searches.Search.new.Goals as goal
 

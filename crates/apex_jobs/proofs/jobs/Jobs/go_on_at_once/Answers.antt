@@ -6,7 +6,7 @@ use Rattle.apex_explore.specs.declared.fronts.Front.{Front}
 use Rattle.apex_explore.specs.declared.searches.Search.{Search}
 use Rattle.apex_explore.proofs.Levels.{turned_level}
 use Rattle.apex_states.specs.States.{Reached}
-use Rattle.apex_jobs.specs.Rounds.{AreExpansions, AreLaidOut}
+use Rattle.apex_jobs.specs.Rounds.{AreExpansions}
 use Rattle.apex_jobs.proofs.Rounds.{AreExpansions-later}
 use Rattle.apex_jobs.proofs.jobs.Jobs.go_on_at_once.Goals as goal
 
@@ -18,26 +18,22 @@ loop-search-preserved g c =
     let so_far = c.loop-search.invariant in
     let taken = c.in_ok-stop.ensures.taken in
     let past = taken.past c.in-None.is in
-    let same = c.in_ok-lay_out_all-2.ensures.same in
     let old = c.loop-search.search in
-    let base = c.lay_out_all-in-loop-search.new.search in
     let new = c.take_and_expand.new.search in
     let turn = c.turn.new.self in
     let end = c.loop-search.end in
     let count = c.states_at_once-in-loop-search.result in
     let next : ℕ = end + count in
-    let laid : AreLaidOut is_state base.states end next c.lay_out_all-in-loop-search.new.desks = rw same.states c.in_ok-lay_out_all-2.ensures.laid in
-    let width : base.states.width ≡ word_count = rw same.states so_far.over.width in
-    let found = c.in_ok-stop.ensures.expansions base.states end next width laid in
-    let kept = AreExpansions-later step is_state base.states new.states end next c.in_ok-stop.more.items taken.states (taken.over.width ∙ sym width) found in
+    let laid = rw c.states-in-loop-search.ensures at c.in_ok-lay_out_all-2.ensures.laid in
+    let found = c.in_ok-stop.ensures.expansions old.states end next so_far.over.width laid in
+    let kept = AreExpansions-later step is_state old.states new.states end next c.in_ok-stop.more.items taken.states (taken.over.width ∙ sym so_far.over.width) found in
     let states : turn.states ≡ new.states = ap (λ (s : Search g.row.W.Denot). s.states) c.turn.ensures.same in
     let In : Reached → Type 0 = λ r. AreExpansions step is_state r end next c.in_ok-stop.more.items in
     let From : ℕ → Type 0 = λ n. AreExpansions step is_state turn.states n next c.in_ok-stop.more.items in
     let Over : Search g.row.W.Denot → Type 0 = λ s. IsOver word_count is_state (g.S.System.is_workspace c.args.system.now) s in
     let at : turn.front.at ≡ end = sym c.turn.ensures.further ∙ past.at in
-    let level : new.front.level_end ≡ c.loop-search.limit = past.level ∙ (ap (λ (f : Front). f.level_end) same.front ∙ so_far.level) in
-    let longer : length old.states.states ≤ length new.states.states = omega (arith, taken.states.longer, ap (λ (r : Reached). length r.states) same.states) in
-    let there : next ≤ length new.states.states = omega (arith, longer, c.len.ensures, c.states_ahead-left.ensures.within, c.states_at_once-in-loop-search.ensures.within) in
+    let level : new.front.level_end ≡ c.loop-search.limit = past.level ∙ so_far.level in
+    let there : next ≤ length new.states.states = omega (arith, taken.states.longer, c.len.ensures, c.states_ahead-left.ensures.within, c.states_at_once-in-loop-search.ensures.within) in
     let here : new.front.at < new.front.level_end → next ≤ new.front.level_end = λ before.
     let within = c.states_ahead-left.ensures.level (omega (arith, before, past.at, level)) in
     omega (arith, within, level, c.states_at_once-in-loop-search.ensures.within) in
@@ -61,7 +57,7 @@ loop-search-preserved g c =
       before = omega (arith, at, c.states_at_once-in-loop-search.ensures.some);
       within = omega (arith, within, left.limit);
       level = sym left.limit;
-      room = ap (λ (r : Reached). r.room) states ∙ (taken.room ∙ (ap (λ (r : Reached). r.room) same.states ∙ so_far.room));
+      room = ap (λ (r : Reached). r.room) states ∙ (taken.room ∙ so_far.room);
     }
 
 pub loop-search-smaller : goal.loop-search-smaller
@@ -69,14 +65,13 @@ loop-search-smaller g c =
     let so_far = c.loop-search.invariant in
     let taken = c.in_ok-stop.ensures.taken in
     let past = taken.past c.in-None.is in
-    let same = c.in_ok-lay_out_all-2.ensures.same in
     let old = c.loop-search.search in
     let new = c.take_and_expand.new.search in
     let turn = c.turn.new.self in
     let end = c.loop-search.end in
     let states : turn.states ≡ new.states = ap (λ (s : Search g.row.W.Denot). s.states) c.turn.ensures.same in
     let at : turn.front.at ≡ end = sym c.turn.ensures.further ∙ past.at in
-    let room : turn.states.room ≡ old.states.room = ap (λ (r : Reached). r.room) states ∙ (taken.room ∙ ap (λ (r : Reached). r.room) same.states) in
+    let room : turn.states.room ≡ old.states.room = ap (λ (r : Reached). r.room) states ∙ taken.room in
     let fits : length old.states.states ≤ old.states.room = c.show.ensures in
     let smaller : turn.states.room + 1 - turn.front.at < old.states.room + 1 - old.front.at = omega (arith, room, at, fits, so_far.before, so_far.within, so_far.level, so_far.searched.in_states) in
     smaller

@@ -1,16 +1,20 @@
-use Rattle.std.proofs.Common.{◌∙◌, vec_capacity}
-use Rattle.apex_states.proofs.Storing.{restored_back, to_restore}
+-- The words of both halves of a state.
+use Rattle.std.proofs.Common.{subst}
+use Rattle.apex_states.specs.Halves.{IsNumber}
+use Rattle.apex_states.proofs.Storing.{seen_held, state_here, IsStored-held}
 use Rattle.apex_states.proofs.states.States.restore.Goals as goal
 
-pub restore_halves-requires-clause-halves : goal.restore_halves-requires-clause-halves
-restore_halves-requires-clause-halves c = to_restore c.self.inside.width c.self.inside.roots c.self.inside.nodes c.self.inside.origins.items (vec_capacity c.self.inside.origins) c.args.place c.self.inside.words.items c.self.inside.here.items c.as_mut_slice.result.now c.row.result.now c.self.invariant.0 c.self.invariant.1.long c.row.ensures.row (c.row.ensures.width ∙ c.self.invariant.0.one) c.as_mut_slice.ensures.value
-
 pub invariant_of-self : goal.invariant_of-self
-invariant_of-self c =
-    let done = restored_back c.self.inside.width c.self.inside.roots c.self.inside.nodes c.self.inside.origins.items (vec_capacity c.self.inside.origins) c.args.place c.self.inside.here.len c.self.inside.words.items c.self.inside.here.items c.as_mut_slice.result.now c.row.result.now c.restore_halves.new.words c.self.invariant.0 c.self.invariant.1.long c.row.ensures.row (c.row.ensures.width ∙ c.self.invariant.0.one) c.as_mut_slice.ensures.len c.as_mut_slice.ensures.value c.restore_halves.ensures in
-    (c.self.invariant.0, done.0)
+invariant_of-self c = IsStored-held c.self.inside.roots c.self.inside.left c.self.inside.right c.restore.new.self c.restore-2.new.self c.self.invariant c.restore.ensures.held c.restore-2.ensures.held c.restore.ensures.half c.restore-2.ensures.half
 
 pub returns-clause-state : goal.returns-clause-state
 returns-clause-state c =
-    let done = restored_back c.self.inside.width c.self.inside.roots c.self.inside.nodes c.self.inside.origins.items (vec_capacity c.self.inside.origins) c.args.place c.self.inside.here.len c.self.inside.words.items c.self.inside.here.items c.as_mut_slice.result.now c.row.result.now c.restore_halves.new.words c.self.invariant.0 c.self.invariant.1.long c.row.ensures.row (c.row.ensures.width ∙ c.self.invariant.0.one) c.as_mut_slice.ensures.len c.as_mut_slice.ensures.value c.restore_halves.ensures in
-    rw (← c.self.view_is, c.copy_from_slice.ensures.after, c.as_slice.ensures.value) done.1
+    let (pair, there, high) = c.number.ensures in
+    let (pair', there', low) = c.number-2.ensures in
+    let front = subst (λ n. IsNumber c.restore.new.self n c.words.result.now) c.restore.ensures.number c.words.ensures in
+    let back = subst (λ n. IsNumber c.restore-2.new.self n c.words-2.result.now) c.restore-2.ensures.number c.words-2.ensures in
+    rw (← c.self.view_is, c.copy_from_slice.ensures.after, c.copy_from_slice-2.ensures.after) (state_here c.self.inside.roots c.self.inside.left c.self.inside.right c.restore.new.self c.restore-2.new.self c.args.place pair pair' c.number.result c.number-2.result c.words.result.now c.words-2.result.now
+    c.self.invariant c.restore.ensures.held c.restore-2.ensures.held there there' high low front back)
+
+pub returns-clause-same : goal.returns-clause-same
+returns-clause-same c = rw (← c.self.view_is) (seen_held c.self.inside.roots c.self.inside.left c.self.inside.right c.restore.new.self c.restore-2.new.self c.self.invariant c.restore.ensures.held c.restore-2.ensures.held)

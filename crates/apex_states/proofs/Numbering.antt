@@ -1,0 +1,121 @@
+-- States that were found, whose halves are numbered one after the other.
+use Rattle.std.proofs.Common.{◌≡◌, ℕ, ◌+◌, ◌/◌, ◌%◌, ◌^◌, List, [], ◌∷◌, ◌++◌, length, length-append, Some, refl, sym, ap, ◌∙◌, subst, inl, inr, arith}
+use Rattle.std.proofs.lemmas.Option.{same_Some}
+use Rattle.std.specs.List.{slice_get}
+use Rattle.apex_states.specs.declared.halves.Half.{Half}
+use Rattle.apex_states.specs.declared.halves.Side.{Side}
+use Rattle.apex_states.specs.declared.halves.Side.TheVariants.{Left, Right}
+use Rattle.apex_states.specs.Finds.{Found}
+use Rattle.apex_states.specs.Halves.{number_on, part_of, IsHalf, IsNumber, StillHas}
+use Rattle.apex_states.specs.Keeping.{AreNumbered, ArePaired, HasHalf}
+use Rattle.apex_states.specs.Lists.{AllAre}
+use Rattle.apex_states.specs.States.{IsRoot}
+use Rattle.apex_states.proofs.Halving.{parts_whole, IsNumber-held, StillHas-refl, StillHas-trans}
+use Rattle.apex_states.proofs.Probing.{last_or_before}
+use Rattle.apex_states.proofs.Storing.{IsRoot-numbered}
+
+-- the number of the half of a parent
+pub parent_number : (old new : Half) (rows : List (List ℕ)) (place pair number : ℕ) (side : Side)
+    → AllAre (HasHalf old) rows → StillHas old new → slice_get rows place ≡ Some (pair ∷ []) → side ≡ new.side → number ≡ number_on side pair
+    → (words : List ℕ) × IsNumber new number words
+parent_number old new rows place pair number side valid has there side_is number_is =
+    let has_half = valid place (pair ∷ []) there in
+    let e : has_half.pair ≡ pair = sym (same_head pair has_half.pair has_half.row_is) in
+    let Number : ℕ → Type 0 = λ n. IsNumber new n has_half.words in
+    let same : number_on old.side has_half.pair ≡ number = ap (number_on old.side) e ∙ (ap (λ s. number_on s pair) (sym has.side ∙ sym side_is) ∙ sym number_is) in
+    (has_half.words, subst Number same (IsNumber-held old new (number_on old.side has_half.pair) has_half.words has has_half.number))
+  where
+    same_head : (a b : ℕ) → a ∷ [] ≡ b ∷ [] → a ≡ b
+    same_head a b same = cc
+
+-- the number on the same side of a half that still has it
+number_still : (old new half : Half) (number : ℕ) (k : List ℕ) → half.side ≡ old.side → half.width ≡ old.width → IsNumber new number (part_of old.side old.width k) → IsNumber new number (part_of half.side half.width k)
+number_still old new half number k side width is =
+    let Part : Side → ℕ → Type 0 = λ s n. IsNumber new number (part_of s n k) in
+    subst (λ s. Part s half.width) (sym side) (subst (Part old.side) (sym width) is)
+
+-- the states before `place` are numbered
+pub record IsNumbering (found : Found) (old half : Half) (numbers : List ℕ) (place : ℕ) : Type 0 where
+  pub is_half : IsHalf half
+  pub has : StillHas old half
+  pub count : length numbers ≡ place
+  pub each : (at number : ℕ) (k : List ℕ) → slice_get numbers at ≡ Some number → slice_get found.states at ≡ Some k
+      → (length k ≡ found.width) × IsNumber half number (part_of half.side half.width k)
+
+pub IsNumbering-start : (found : Found) (half : Half) → IsHalf half → IsNumbering found half half [] 0
+IsNumbering-start found half is = record { is_half = is; has = StillHas-refl half; count = refl; each = λ at number k there. cc }
+
+pub IsNumbering-next : (found : Found) (old half restored new : Half) (numbers : List ℕ) (place number : ℕ) (k : List ℕ)
+    → slice_get found.states place ≡ Some k → length k ≡ found.width
+    → StillHas half restored → StillHas restored new → IsHalf new
+    → IsNumber new number (part_of restored.side restored.width k)
+    → IsNumbering found old half numbers place → IsNumbering found old new (numbers ++ number ∷ []) (place + 1)
+IsNumbering-next found old half restored new numbers place number k here long first second is_half number_is so_far =
+    let has = StillHas-trans half restored new first second in
+    let Numbered : ℕ → List ℕ → Type 0 = λ n l. (length l ≡ found.width) × IsNumber new n (part_of new.side new.width l) in
+    let last : Numbered number k = (long, number_still restored new new number k second.side second.width number_is) in
+    record {
+      is_half = is_half;
+      has = StillHas-trans old half new so_far.has has;
+      count = omega (arith, length-append numbers (number ∷ []), so_far.count);
+      each = λ at other l there is. elim (last_or_before numbers number at other there) [
+        | inl before ↦
+            let was = so_far.each at other l before is in
+            let held : IsNumber new other (part_of half.side half.width l) = IsNumber-held half new other (part_of half.side half.width l) has was.1 in
+            (was.0, number_still half new new other l has.side has.width held)
+        | inr (at_is, same) ↦
+            let e : at ≡ place = omega (arith, at_is, so_far.count) in
+            let there' : slice_get found.states place ≡ Some l = ap (slice_get found.states) (sym e) ∙ is in
+            let l_is : k ≡ l = same_Some k l (sym here ∙ there') in
+            subst (λ n. Numbered n l) same (subst (Numbered number) l_is last)
+      ];
+    }
+
+pub IsNumbering-end : (found : Found) (old half : Half) (numbers : List ℕ) (place : ℕ) → place ≡ length found.states → IsNumbering found old half numbers place → AreNumbered half found numbers
+IsNumbering-end found old half numbers place end so_far = record { count = so_far.count ∙ end; each = so_far.each }
+
+-- Numbers that are paired.
+
+-- those before `place` are paired
+pub record IsPairing (lefts rights pairs : List ℕ) (place : ℕ) : Type 0 where
+  pub count : length pairs ≡ place
+  pub left : (at pair : ℕ) → slice_get pairs at ≡ Some pair → slice_get lefts at ≡ Some (pair / 2 ^ 32)
+  pub right : (at pair : ℕ) → slice_get pairs at ≡ Some pair → slice_get rights at ≡ Some (pair % 2 ^ 32)
+
+pub IsPairing-start : (lefts rights : List ℕ) → IsPairing lefts rights [] 0
+IsPairing-start lefts rights = record { count = refl; left = λ at pair there. cc; right = λ at pair there. cc }
+
+pub IsPairing-next : (lefts rights pairs : List ℕ) (place left right pair : ℕ)
+    → slice_get lefts place ≡ Some left → slice_get rights place ≡ Some right → pair / 2 ^ 32 ≡ left → pair % 2 ^ 32 ≡ right
+    → IsPairing lefts rights pairs place → IsPairing lefts rights (pairs ++ pair ∷ []) (place + 1)
+IsPairing-next lefts rights pairs place left right pair here here' high low so_far = record {
+  count = omega (arith, length-append pairs (pair ∷ []), so_far.count);
+  left = λ at other there. elim (last_or_before pairs pair at other there) [
+    | inl before ↦ so_far.left at other before
+    | inr (at_is, same) ↦
+        let e : at ≡ place = omega (arith, at_is, so_far.count) in
+        ap (slice_get lefts) e ∙ (here ∙ ap Some (sym high ∙ ap (λ n. n / 2 ^ 32) same))
+  ];
+  right = λ at other there. elim (last_or_before pairs pair at other there) [
+    | inl before ↦ so_far.right at other before
+    | inr (at_is, same) ↦
+        let e : at ≡ place = omega (arith, at_is, so_far.count) in
+        ap (slice_get rights) e ∙ (here' ∙ ap Some (sym low ∙ ap (λ n. n % 2 ^ 32) same))
+  ];
+}
+
+pub IsPairing-end : (lefts rights pairs : List ℕ) (place : ℕ) → place ≡ length lefts → IsPairing lefts rights pairs place → ArePaired lefts rights pairs
+IsPairing-end lefts rights pairs place end so_far = record { count = so_far.count ∙ end; left = so_far.left; right = so_far.right }
+
+-- the pairs are the roots of the states that were found
+pub roots_numbered : (left right : Half) (found : Found) (lefts rights pairs : List ℕ)
+    → left.side ≡ Left → right.side ≡ Right → found.width ≡ left.width + right.width
+    → AreNumbered left found lefts → AreNumbered right found rights → ArePaired lefts rights pairs
+    → (place pair : ℕ) (k : List ℕ) → slice_get pairs place ≡ Some pair → slice_get found.states place ≡ Some k → IsRoot left right (pair ∷ []) k
+roots_numbered left right found lefts rights pairs left_side right_side width one other paired place pair k there is =
+    let front = one.each place (pair / 2 ^ 32) k (paired.left place pair there) is in
+    let back = other.each place (pair % 2 ^ 32) k (paired.right place pair there) is in
+    let Front : Side → Type 0 = λ s. IsNumber left (pair / 2 ^ 32) (part_of s left.width k) in
+    let Back : Side → Type 0 = λ s. IsNumber right (pair % 2 ^ 32) (part_of s right.width k) in
+    IsRoot-numbered left right pair (part_of Left left.width k) (part_of Right right.width k) k
+    (subst Front left_side front.1) (subst Back right_side back.1) (parts_whole left.width right.width k (front.0 ∙ width))

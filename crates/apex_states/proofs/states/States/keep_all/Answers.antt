@@ -1,0 +1,32 @@
+-- The halves of the states are numbered, and their roots are entered.
+use Rattle.apex_states.proofs.Rooting.{kept_all}
+use Rattle.apex_states.proofs.Storing.{IsStored-held}
+use Rattle.apex_states.proofs.states.States.keep_all.Goals as goal
+
+pub invariant_of-self : goal.invariant_of-self
+invariant_of-self g c =
+    let numbered = c.number_both.ensures in
+    IsStored-held c.self.inside.roots c.self.inside.left c.self.inside.right c.number_both.new.left c.number_both.new.right c.self.invariant numbered.held_left numbered.held_right numbered.left numbered.right
+
+pub invariant_of-self-in_err-pairs : goal.invariant_of-self-in_err-pairs
+invariant_of-self-in_err-pairs g c =
+    let numbered = c.number_both.ensures in
+    IsStored-held c.self.inside.roots c.self.inside.left c.self.inside.right c.number_both.new.left c.number_both.new.right c.self.invariant numbered.held_left numbered.held_right numbered.left numbered.right
+
+pub invariant_of-self-2 : goal.invariant_of-self-2
+invariant_of-self-2 g c =
+    let numbered = c.in_ok-lefts.ensures in
+    let width = rw (← c.self.view_is) at c.requires.width in
+    let paired = rw (c.as_slice.ensures.value, c.as_slice-2.ensures.value) at c.in_ok-pairs.ensures in
+    let kept = rw c.as_slice-3.ensures.value at c.enter_all.ensures in
+    (kept_all c.self.inside.roots c.enter_all.new.roots c.self.inside.left c.self.inside.right c.number_both.new.left c.number_both.new.right c.args.finds.now c.in_ok-lefts.lefts.items c.in_ok-lefts.rights.items c.in_ok-pairs.pairs.items c.enter_all.result
+    c.self.invariant numbered.held_left numbered.held_right numbered.left numbered.right width numbered.lefts numbered.rights paired kept).0
+
+pub returns : goal.returns
+returns g c =
+    let numbered = c.in_ok-lefts.ensures in
+    let width = rw (← c.self.view_is) at c.requires.width in
+    let paired = rw (c.as_slice.ensures.value, c.as_slice-2.ensures.value) at c.in_ok-pairs.ensures in
+    let kept = rw c.as_slice-3.ensures.value at c.enter_all.ensures in
+    rw (← c.self.view_is) (kept_all c.self.inside.roots c.enter_all.new.roots c.self.inside.left c.self.inside.right c.number_both.new.left c.number_both.new.right c.args.finds.now c.in_ok-lefts.lefts.items c.in_ok-lefts.rights.items c.in_ok-pairs.pairs.items c.enter_all.result
+    c.self.invariant numbered.held_left numbered.held_right numbered.left numbered.right width numbered.lefts numbered.rights paired kept).1

@@ -1,0 +1,43 @@
+-- States that were found, of which the halves are numbered.
+use Rattle.std.specs.Prelude.{◌≡◌, ℕ, ◌/◌, ◌%◌, ◌^◌, ◌<◌, ◌≤◌, List, [], ◌∷◌, length, map, slice_get, Some}
+use Rattle.apex_states.specs.declared.halves.Half.{Half}
+use Rattle.apex_states.specs.declared.states.Origin.{Origin}
+use Rattle.apex_states.specs.Finds.{Found}
+use Rattle.apex_states.specs.Halves.{IsHalf, IsNumber, number_on, part_of}
+use Rattle.apex_states.specs.Lists.{AllAre}
+use Rattle.apex_states.specs.States.{Reached}
+
+-- the row is a pair, and the number on this side is that of some words
+pub record HasHalf (half : Half) (row : List ℕ) : Type 0 where
+  pub pair : ℕ
+  pub words : List ℕ
+  pub row_is : row ≡ pair ∷ []
+  pub number : IsNumber half (number_on half.side pair) words
+
+-- the half of each state that was found can be numbered
+pub record CanNumber (half : Half) (roots : Reached) (found : Found) : Type 0 where
+  pub is_half : IsHalf half
+  pub valid : AllAre (HasHalf half) roots.states
+  pub wide : half.width ≤ found.width
+  pub parents : (place : ℕ) (origin : Origin) → slice_get found.origins place ≡ Some origin
+      → origin.parent < length roots.states
+
+-- the numbers are those of the halves of the states that were found
+pub record AreNumbered (half : Half) (found : Found) (numbers : List ℕ) : Type 0 where
+  pub count : length numbers ≡ length found.states
+  pub each : (place number : ℕ) (k : List ℕ) → slice_get numbers place ≡ Some number
+      → slice_get found.states place ≡ Some k
+      → (length k ≡ found.width) × IsNumber half number (part_of half.side half.width k)
+
+-- each pair has the numbers at its place
+pub record ArePaired (lefts rights pairs : List ℕ) : Type 0 where
+  pub count : length pairs ≡ length lefts
+  pub left : (place pair : ℕ) → slice_get pairs place ≡ Some pair
+      → slice_get lefts place ≡ Some (pair / 2 ^ 32)
+  pub right : (place pair : ℕ) → slice_get pairs place ≡ Some pair
+      → slice_get rights place ≡ Some (pair % 2 ^ 32)
+
+-- a pair in place of each state that was found
+abbrev pub roots_found : List ℕ → Found → Found
+roots_found pairs found =
+    record { width = 1; states = map (λ pair. pair ∷ []) pairs; origins = found.origins }
