@@ -7,21 +7,17 @@ use Rattle.apex_console.specs.Words.{flag_rule, program_alone, request_by, requi
 use Rattle.apex_console.specs.declared.Report.{Report}
 use Rattle.apex_console.specs.declared.Report.TheVariants.{History, Status}
 
--- `replay --schedule S`
-abbrev pub replay : App
-replay = with_rule (new_app (codes "replay")) (required_rule (codes "schedule"))
-
--- `status --schedule S`
-abbrev pub status : App
-status = with_rule (new_app (codes "status")) (required_rule (codes "schedule"))
+-- the command of this name, `--schedule S`
+abbrev pub report_command : Text → App
+report_command name = with_rule (new_app name) (required_rule (codes "schedule"))
 
 -- `check`
-abbrev pub check : App
-check = new_app (codes "check")
+abbrev pub check_command : App
+check_command = new_app (codes "check")
 
 -- `run --turns N --ticks K`, with or without `--front`
-abbrev pub run : App
-run =
+abbrev pub run_command : App
+run_command =
     with_rule
     (with_rule (with_rule (new_app (codes "run")) (required_rule (codes "turns")))
     (required_rule (codes "ticks")))
@@ -36,7 +32,11 @@ abbrev pub apex : App
 apex =
     with_subcommand
     (with_subcommand
-    (with_subcommand (with_subcommand apex_alone replay.top) status.top) check.top) run.top
+    (with_subcommand
+    (with_subcommand apex_alone (report_command (codes "replay")).top)
+    (report_command (codes "status")).top)
+    check_command.top)
+    run_command.top
 
 -- the request of the words of a command line
 pub data Request : Type 0 where

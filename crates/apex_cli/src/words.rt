@@ -1,9 +1,10 @@
 //! The words of the command line.
-ghost use Rattle.std.specs.Prelude.{◌≡◌, IfOk, IfErr, IsErrOf, Some, None, map, string_bytes, option_map, option_and_then};
+ghost use Rattle.std.specs.Prelude.{◌≡◌, false, IfOk, IfErr, IsErrOf, Some, None, map, string_bytes, option_map, option_and_then};
+ghost use Rattle.clap.specs.declared.builder.command.Command.TheViews.{out-Command as fields_of};
 ghost use Rattle.clap.specs.Words.{app_of, found_of, rows_of, subcommand_rows_of};
 ghost use Rattle.apex_console.specs.Faults.{IsUsageOrMemory};
 ghost use Rattle.apex_cli.specs.Requests.{request_said};
-ghost use Rattle.apex_cli.specs.Words.{apex, report_in, request_in, request_of, run_in};
+ghost use Rattle.apex_cli.specs.Words.{apex, report_command, report_in, request_in, request_of, run_command, run_in};
 
 use apex_console::{CliFault, Report, flag, has_flag, matches_of, required};
 use clap::{ArgMatches, Command};
@@ -25,21 +26,34 @@ pub enum Request<'a> {
     },
 }
 
+/// The command of this name, which reports on a run for a schedule.
+fn report_command<'a>(alloc: Global, name: &'static str) -> Result<Command<'a>, AllocError>
+    ensures app { IfOk result (λ c. app_of c ≡ report_command name.now) }
+    ensures local { IfOk result (λ c. (fields_of c).has_globals ≡ false) }
+{
+    Command::new(alloc, name).arg(required(alloc, "schedule"))
+}
+
+/// The command `run`.
+fn run_command<'a>(alloc: Global) -> Result<Command<'a>, AllocError>
+    ensures app { IfOk result (λ c. app_of c ≡ run_command) }
+    ensures local { IfOk result (λ c. (fields_of c).has_globals ≡ false) }
+{
+    let with_turns = Command::new(alloc, "run").arg(required(alloc, "turns"))?;
+    let with_ticks = with_turns.arg(required(alloc, "ticks"))?;
+    with_ticks.arg(flag(alloc, "front"))
+}
+
+/// The program's command line, with all its commands.
 fn command<'a>(alloc: Global) -> Result<Command<'a>, AllocError>
     ensures { IfOk result (λ c. app_of c ≡ apex) }
 {
-    let replay = Command::new(alloc, "replay").arg(required(alloc, "schedule"))?;
-    let status = Command::new(alloc, "status").arg(required(alloc, "schedule"))?;
-    let check = Command::new(alloc, "check");
-    let run_for = Command::new(alloc, "run").arg(required(alloc, "turns"))?;
-    let run_to = run_for.arg(required(alloc, "ticks"))?;
-    let threads = run_to.arg(flag(alloc, "front"))?;
     let with_replay = Command::new(alloc, "apex")
         .subcommand_required(true)
-        .subcommand(replay)?;
-    let with_status = with_replay.subcommand(status)?;
-    let with_check = with_status.subcommand(check)?;
-    with_check.subcommand(threads)
+        .subcommand(report_command(alloc, "replay")?)?;
+    let with_status = with_replay.subcommand(report_command(alloc, "status")?)?;
+    let with_check = with_status.subcommand(Command::new(alloc, "check"))?;
+    with_check.subcommand(run_command(alloc)?)
 }
 
 /// What the words ask for: `replay --schedule S`, `status --schedule S`, `check`, or
