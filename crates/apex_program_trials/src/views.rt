@@ -92,7 +92,11 @@ const PICTURES: [Case; 9] = [
         words: &["svg", "--only", "Q"],
         is_scheduled: true,
         end: End::Complete,
-        parts: &["data-process='2'", ">2 Q</text>", ">1 of 2 processes</text>"],
+        parts: &[
+            "data-process='2'",
+            ">2 Q</text>",
+            ">1 of 2 processes</text>",
+        ],
         lacks: "data-process='1'",
     },
     Case {
