@@ -39,7 +39,7 @@ fn bytes_of<R: Abort>(rt: &R, alloc: Global, text: &str) -> Vec<u8> {
 /// The picture of three turns, behind which a line departs.
 fn picture_of<R: Abort>(rt: &R, alloc: Global) -> Vec<u8> {
     let turns = [Event::Turn(CoreId::new(0)); 3];
-    let frame = frame_of(rt, alloc, TABLE, Axis::Entries, &turns, None);
+    let frame = frame_of(rt, alloc, TABLE, Axis::Entries, false, &turns, None);
     let mark = Mark {
         expected: bytes_of(rt, alloc, "4 0 core0 1 GET_MY_ID -> NO_ERROR:1"),
         given: bytes_of(rt, alloc, "4 0 core0 1 <&\\x09"),
