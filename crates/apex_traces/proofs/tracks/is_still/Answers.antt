@@ -1,10 +1,10 @@
 -- A process that a core runs is the chosen one of that core, and a chosen process is running.
-use Rattle.std.proofs.Common.{◌≡◌, ◌∙◌, ◌<◌, ℕ, List, Option, None, Some, ap, arith, length, sym}
+use Rattle.std.proofs.Common.{◌≡◌, ◌∙◌, ◌<◌, ℕ, List, Option, None, ap, arith, sym}
 use Rattle.std.specs.Prelude.{slice_index_or}
 use Rattle.apex_machine.specs.processes.Running.{chosen, process_state}
 use Rattle.apex_types.specs.declared.limits.TheConstants.{MOST_CORES}
 use Rattle.apex_types.specs.declared.modes.State.TheVariants as states
-use Rattle.apex_moments.proofs.Places.{length_of, place_of}
+use Rattle.apex_moments.proofs.Places.{place_of}
 use Rattle.apex_traces.proofs.TracksShown.{track_ready, track_runs}
 use Rattle.apex_traces.proofs.tracks.is_still.Goals as goal
 
