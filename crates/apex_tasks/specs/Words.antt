@@ -26,17 +26,16 @@ view_command name =
     (option_rule (codes "turns")))
     (option_rule (codes "early"))
 
--- `svg`, with the options of its window alone, `[--from N] [--to M]`
-abbrev pub svg_of_window : App
-svg_of_window =
-    with_rule (with_rule (view_command (codes "svg")) (option_rule (codes "from")))
-    (option_rule (codes "to"))
-
--- `svg`, which has `[--by AXIS] [--only NAME,NAME] [--fold]` too
+-- `svg`, which has `[--from N] [--to M] [--by AXIS] [--only NAME,NAME] [--fold]` too
 abbrev pub svg : App
 svg =
     with_rule
-    (with_rule (with_rule svg_of_window (option_rule (codes "by"))) (option_rule (codes "only")))
+    (with_rule
+    (with_rule
+    (with_rule (with_rule (view_command (codes "svg")) (option_rule (codes "from")))
+    (option_rule (codes "to")))
+    (option_rule (codes "by")))
+    (option_rule (codes "only")))
     (flag_rule (codes "fold"))
 
 -- `trace`, which has `[--tick-us N]` too

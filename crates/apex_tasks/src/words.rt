@@ -3,7 +3,7 @@ ghost use Rattle.std.specs.Prelude.{◌≡◌, false, IfOk, IfErr, IsErrOf, Some
 ghost use Rattle.clap.specs.declared.builder.command.Command.TheViews.{out-Command as fields_of};
 ghost use Rattle.clap.specs.Words.{app_of, found_of, rows_of, subcommand_rows_of};
 ghost use Rattle.apex_console.specs.Faults.{IsUsageOrMemory};
-ghost use Rattle.apex_tasks.specs.Words.{check_command, comments_in, dump_in, form_in, given_by, given_in, given_said, json_view_command, lab, lab_of_pictures, lab_of_searches, lab_of_views, lint_command, lint_in, lint_words_said, question_command, request_in, request_of, request_said, search_command, search_in, search_said, shown_said, showing_in, step_command, svg, svg_in, svg_of_window, trace_command, trace_in, view_command, view_of, why_command, why_in};
+ghost use Rattle.apex_tasks.specs.Words.{check_command, comments_in, dump_in, form_in, given_by, given_in, given_said, json_view_command, lab, lab_of_pictures, lab_of_searches, lab_of_views, lint_command, lint_in, lint_words_said, question_command, request_in, request_of, request_said, search_command, search_in, search_said, shown_said, showing_in, step_command, svg, svg_in, trace_command, trace_in, view_command, view_of, why_command, why_in};
 
 use apex_console::{CliFault, flag, has_flag, matches_of, option};
 use apex_objects::Form;
@@ -109,20 +109,13 @@ fn view_command<'a>(alloc: Global, name: &'static str) -> Result<Command<'a>, Al
     with_turns.arg(option(alloc, "early"))
 }
 
-/// `svg`, with the options of its window alone.
-fn svg_window_command<'a>(alloc: Global) -> Result<Command<'a>, AllocError>
-    ensures app { IfOk result (λ c. app_of c ≡ svg_of_window) }
-    ensures local { IfOk result (λ c. (fields_of c).has_globals ≡ false) }
-{
-    let with_from = view_command(alloc, "svg")?.arg(option(alloc, "from"))?;
-    with_from.arg(option(alloc, "to"))
-}
-
 fn svg_command<'a>(alloc: Global) -> Result<Command<'a>, AllocError>
     ensures app { IfOk result (λ c. app_of c ≡ svg) }
     ensures local { IfOk result (λ c. (fields_of c).has_globals ≡ false) }
 {
-    let with_by = svg_window_command(alloc)?.arg(option(alloc, "by"))?;
+    let with_from = view_command(alloc, "svg")?.arg(option(alloc, "from"))?;
+    let with_to = with_from.arg(option(alloc, "to"))?;
+    let with_by = with_to.arg(option(alloc, "by"))?;
     let with_only = with_by.arg(option(alloc, "only"))?;
     with_only.arg(flag(alloc, "fold"))
 }
