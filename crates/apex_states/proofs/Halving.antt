@@ -67,9 +67,6 @@ words_at-is half number words is =
 pub same_number : (half : Half) (n m : ℕ) (words : List ℕ) → IsExact half.nodes → IsNumber half n words → IsNumber half m words → n ≡ m
 same_number half n m words exact one other = IsTree-same half.nodes DEPTH n m (words ++ rest_of half) exact one.tree other.tree
 
-tree_words : (half : Half) (number : ℕ) (k words : List ℕ) → IsNumber half number k → IsTree half.nodes DEPTH number words → words ≡ k ++ rest_of half
-tree_words half number k words is tree = sym (words_of-tree half.nodes DEPTH number words tree) ∙ words_of-tree half.nodes DEPTH number (k ++ rest_of half) is.tree
-
 tree_long : (half : Half) (number : ℕ) (k : List ℕ) → IsHalf half → IsNumber half number k → length (k ++ rest_of half) ≡ length half.words.items
 tree_long half number k is number_is = omega (arith, length-append k (rest_of half), length-drop half.width half.words.items, is.wide, number_is.long)
 
