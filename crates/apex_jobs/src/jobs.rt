@@ -22,9 +22,6 @@ const MOST_AT_DESK: usize = 512;
 /// To expand fewer states than this takes less time than to begin a thread.
 const LEAST_AT_DESK: usize = 32;
 
-/// A level is cut into this many rounds if that gives each desk neither too many states nor too few.
-const ROUNDS: usize = 1;
-
 /// Of `states` states, the number of those from the place `end` on that can be laid out while those before
 /// are kept. They are those of the level, which ends at `limit`. At its end they are those of the next one
 /// that are there, unless there are too few for this many desks.
@@ -137,9 +134,7 @@ impl<'r, R: Threads + Sync> Jobs<'r, R> {
         ensures within { result ≤ left }
     {
         let desks = self.jobs.max(1) as usize;
-        let least = LEAST_AT_DESK.saturating_mul(desks);
-        let most = MOST_AT_DESK.saturating_mul(desks);
-        (left / ROUNDS).max(least).min(most).min(left)
+        left.min(MOST_AT_DESK.saturating_mul(desks))
     }
 
     /// Goes on for the states of a level that are left, or until there is an answer: why it stops then.

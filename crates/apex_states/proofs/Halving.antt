@@ -1,13 +1,12 @@
 -- Halves of states.
-use Rattle.std.proofs.Common.{◌≡◌, ℕ, ◌+◌, ◌-◌, ◌*◌, ◌≤◌, List, [], ◌∷◌, ◌++◌, length, length-append, take, drop, replicate, refl, sym, ap, ◌∙◌, subst, arith}
-use Rattle.std.proofs.lemmas.List.{length-drop, length-replicate, length-take-le, take-append-drop}
+use Rattle.std.proofs.Common.{◌≡◌, ℕ, ◌+◌, ◌-◌, ◌≤◌, List, [], ◌∷◌, ◌++◌, length, length-append, take, drop, refl, sym, ap, ◌∙◌, subst, arith}
+use Rattle.std.proofs.lemmas.List.{length-drop, length-take-le, take-append-drop}
 use Rattle.apex_states.specs.declared.halves.Half.{Half}
 use Rattle.apex_states.specs.declared.halves.Side.{Side}
 use Rattle.apex_states.specs.declared.halves.Side.TheVariants.{Left, Right}
 use Rattle.apex_states.specs.declared.halves.TheConstants.{DEPTH}
-use Rattle.apex_states.specs.declared.nodes.Nodes.{Nodes}
 use Rattle.apex_states.specs.Halves.{part_of, rest_of, words_at, IsHalf, IsNumber, StillHas}
-use Rattle.apex_states.specs.Nodes.{no_nodes, spread, IsExact, IsHeld, IsTree}
+use Rattle.apex_states.specs.Nodes.{spread, IsExact, IsHeld, IsTree}
 use Rattle.apex_states.proofs.Trees.{words_of-tree, IsHeld-refl, IsHeld-trans, IsTree-held, IsTree-same}
 
 take_front : (xs ys : List ℕ) → take (length xs) (xs ++ ys) ≡ xs
@@ -68,9 +67,6 @@ words_at-is half number words is =
 pub same_number : (half : Half) (n m : ℕ) (words : List ℕ) → IsExact half.nodes → IsNumber half n words → IsNumber half m words → n ≡ m
 same_number half n m words exact one other = IsTree-same half.nodes DEPTH n m (words ++ rest_of half) exact one.tree other.tree
 
-tree_words : (half : Half) (number : ℕ) (k words : List ℕ) → IsNumber half number k → IsTree half.nodes DEPTH number words → words ≡ k ++ rest_of half
-tree_words half number k words is tree = sym (words_of-tree half.nodes DEPTH number words tree) ∙ words_of-tree half.nodes DEPTH number (k ++ rest_of half) is.tree
-
 tree_long : (half : Half) (number : ℕ) (k : List ℕ) → IsHalf half → IsNumber half number k → length (k ++ rest_of half) ≡ length half.words.items
 tree_long half number k is number_is = omega (arith, length-append k (rest_of half), length-drop half.width half.words.items, is.wide, number_is.long)
 
@@ -78,25 +74,6 @@ tree_long half number k is number_is = omega (arith, length-append k (rest_of ha
 pub to_restore : (half : Half) (number : ℕ) (k room : List ℕ) → IsHalf half → IsNumber half number k → length room ≡ length half.words.items
     → (words : List ℕ) × (length words ≡ length room) × IsTree half.nodes DEPTH number words
 to_restore half number k room is number_is long = (k ++ rest_of half, tree_long half number k is number_is ∙ sym long, number_is.tree)
-
--- the first words of a tree with a number
-pub IsNumber-read : (half : Half) (number : ℕ) (k words : List ℕ) → IsNumber half number k → IsTree half.nodes DEPTH number words → IsNumber half number (take half.width words)
-IsNumber-read half number k words is tree =
-    let whole = tree_words half number k words is tree in
-    let Taken : ℕ → Type 0 = λ n. take n (k ++ rest_of half) ≡ k in
-    let same : take half.width words ≡ k = ap (take half.width) whole ∙ subst Taken is.long (take_front k (rest_of half)) in
-    subst (IsNumber half number) (sym same) is
-
--- the words that are here
-pub IsNumber-here : (half : Half) → IsHalf half → IsNumber half half.number (take half.width half.here.items)
-IsNumber-here half is =
-    let here = half.here.items in
-    let front = take half.width here in
-    let whole : here ≡ front ++ rest_of half = sym (take-append-drop half.width here) ∙ ap (λ ws. front ++ ws) is.here_rest in
-    record {
-      long = length-take-le half.width here (omega (arith, is.here_long, is.wide));
-      tree = subst (IsTree half.nodes DEPTH half.number) whole is.here;
-    }
 
 -- The words of a half, put before the rest.
 
@@ -126,47 +103,6 @@ IsHalf-on old new is held exact width long rest here number = record {
   here_rest = rw (width, here) (is.here_rest ∙ sym rest);
   here = rw (number, here) (IsTree-held old.nodes new.nodes DEPTH old.number old.here.items held is.here);
 }
-
--- a half where another one is here
-pub IsHalf-restored : (old new : Half) (k : List ℕ) → IsHalf old
-    → new.nodes ≡ old.nodes → new.width ≡ old.width → new.words.items ≡ old.words.items
-    → IsNumber old new.number k → IsTree old.nodes DEPTH new.number new.here.items
-    → IsHalf new
-IsHalf-restored old new k is nodes width words number here =
-    let whole = tree_words old new.number k new.here.items number here in
-    let long : length new.here.items ≡ length old.words.items = ap length whole ∙ tree_long old new.number k is number in
-    let Rest : ℕ → Type 0 = λ n. drop n (k ++ rest_of old) ≡ rest_of old in
-    let rest : drop old.width new.here.items ≡ rest_of old = ap (drop old.width) whole ∙ subst Rest number.long (drop_front k (rest_of old)) in
-    record {
-      exact = rw nodes is.exact;
-      long = rw (nodes, words) is.long;
-      wide = rw (width, words) is.wide;
-      here_long = rw words long;
-      here_rest = rw (width, words) rest;
-      here = rw nodes here;
-    }
-
--- a half with no words in it yet
-pub IsHalf-start : (part width : ℕ) (half : Half) (nodes : Nodes)
-    → nodes ≡ no_nodes part 64 → IsHeld nodes half.nodes → IsExact half.nodes
-    → half.width ≤ 4 * part → half.words.items ≡ replicate (4 * part) 0 → half.here.items ≡ replicate (4 * part) 0
-    → IsTree half.nodes DEPTH half.number half.here.items
-    → IsHalf half
-IsHalf-start part width half nodes nodes_are held exact wide words here tree =
-    let part_is : half.nodes.parts.width ≡ part = held.width ∙ ap (λ (n : Nodes). n.parts.width) nodes_are in
-    let words_long : length half.words.items ≡ 4 * part = ap length words ∙ length-replicate (4 * part) 0 in
-    let here_long : length half.here.items ≡ 4 * part = ap length here ∙ length-replicate (4 * part) 0 in
-    record {
-      exact = exact;
-      long = words_long ∙ (omega arith ∙ sym (ap (λ w. spread w DEPTH) part_is));
-      wide = omega (arith, wide, words_long);
-      here_long = here_long ∙ sym words_long;
-      here_rest = ap (drop half.width) (here ∙ sym words);
-      here = tree;
-    }
-
-pub exact_start : (nodes : Nodes) (part : ℕ) → nodes ≡ no_nodes part 64 → IsExact nodes
-exact_start nodes part is = rw is (record { parts = λ i j k one other. cc; pairs = λ i j k one other. cc; one = refl })
 
 -- the number of words that were put before the rest
 pub IsNumber-put : (half new : Half) (number : ℕ) (k words : List ℕ) → length k ≡ half.width → new.width ≡ half.width → words ≡ k ++ rest_of half → rest_of new ≡ rest_of half → IsTree new.nodes DEPTH number words → IsNumber new number k

@@ -1,5 +1,5 @@
 -- States that were found, whose halves are numbered one after the other.
-use Rattle.std.proofs.Common.{◌≡◌, ℕ, ◌+◌, ◌/◌, ◌%◌, ◌^◌, List, [], ◌∷◌, ◌++◌, length, length-append, Some, refl, sym, ap, ◌∙◌, subst, inl, inr, arith}
+use Rattle.std.proofs.Common.{◌≡◌, ℕ, ◌+◌, ◌/◌, ◌%◌, ◌^◌, List, [], ◌∷◌, ◌++◌, length, length-append, Some, sym, ap, ◌∙◌, subst, inl, inr, arith}
 use Rattle.std.proofs.lemmas.Option.{same_Some}
 use Rattle.std.specs.List.{slice_get}
 use Rattle.apex_states.specs.declared.halves.Half.{Half}
@@ -10,7 +10,7 @@ use Rattle.apex_states.specs.Halves.{number_on, part_of, IsHalf, IsNumber, Still
 use Rattle.apex_states.specs.Keeping.{AreNumbered, ArePaired, HasHalf}
 use Rattle.apex_states.specs.Lists.{AllAre}
 use Rattle.apex_states.specs.States.{IsRoot}
-use Rattle.apex_states.proofs.Halving.{parts_whole, IsNumber-held, StillHas-refl, StillHas-trans}
+use Rattle.apex_states.proofs.Halving.{parts_whole, IsNumber-held, StillHas-trans}
 use Rattle.apex_states.proofs.Probing.{last_or_before}
 use Rattle.apex_states.proofs.Storing.{IsRoot-numbered}
 
@@ -42,9 +42,6 @@ pub record IsNumbering (found : Found) (old half : Half) (numbers : List ℕ) (p
   pub each : (at number : ℕ) (k : List ℕ) → slice_get numbers at ≡ Some number → slice_get found.states at ≡ Some k
       → (length k ≡ found.width) × IsNumber half number (part_of half.side half.width k)
 
-pub IsNumbering-start : (found : Found) (half : Half) → IsHalf half → IsNumbering found half half [] 0
-IsNumbering-start found half is = record { is_half = is; has = StillHas-refl half; count = refl; each = λ at number k there. cc }
-
 pub IsNumbering-next : (found : Found) (old half restored new : Half) (numbers : List ℕ) (place number : ℕ) (k : List ℕ)
     → slice_get found.states place ≡ Some k → length k ≡ found.width
     → StillHas half restored → StillHas restored new → IsHalf new
@@ -71,9 +68,6 @@ IsNumbering-next found old half restored new numbers place number k here long fi
       ];
     }
 
-pub IsNumbering-end : (found : Found) (old half : Half) (numbers : List ℕ) (place : ℕ) → place ≡ length found.states → IsNumbering found old half numbers place → AreNumbered half found numbers
-IsNumbering-end found old half numbers place end so_far = record { count = so_far.count ∙ end; each = so_far.each }
-
 -- Numbers that are paired.
 
 -- those before `place` are paired
@@ -81,31 +75,6 @@ pub record IsPairing (lefts rights pairs : List ℕ) (place : ℕ) : Type 0 wher
   pub count : length pairs ≡ place
   pub left : (at pair : ℕ) → slice_get pairs at ≡ Some pair → slice_get lefts at ≡ Some (pair / 2 ^ 32)
   pub right : (at pair : ℕ) → slice_get pairs at ≡ Some pair → slice_get rights at ≡ Some (pair % 2 ^ 32)
-
-pub IsPairing-start : (lefts rights : List ℕ) → IsPairing lefts rights [] 0
-IsPairing-start lefts rights = record { count = refl; left = λ at pair there. cc; right = λ at pair there. cc }
-
-pub IsPairing-next : (lefts rights pairs : List ℕ) (place left right pair : ℕ)
-    → slice_get lefts place ≡ Some left → slice_get rights place ≡ Some right → pair / 2 ^ 32 ≡ left → pair % 2 ^ 32 ≡ right
-    → IsPairing lefts rights pairs place → IsPairing lefts rights (pairs ++ pair ∷ []) (place + 1)
-IsPairing-next lefts rights pairs place left right pair here here' high low so_far = record {
-  count = omega (arith, length-append pairs (pair ∷ []), so_far.count);
-  left = λ at other there. elim (last_or_before pairs pair at other there) [
-    | inl before ↦ so_far.left at other before
-    | inr (at_is, same) ↦
-        let e : at ≡ place = omega (arith, at_is, so_far.count) in
-        ap (slice_get lefts) e ∙ (here ∙ ap Some (sym high ∙ ap (λ n. n / 2 ^ 32) same))
-  ];
-  right = λ at other there. elim (last_or_before pairs pair at other there) [
-    | inl before ↦ so_far.right at other before
-    | inr (at_is, same) ↦
-        let e : at ≡ place = omega (arith, at_is, so_far.count) in
-        ap (slice_get rights) e ∙ (here' ∙ ap Some (sym low ∙ ap (λ n. n % 2 ^ 32) same))
-  ];
-}
-
-pub IsPairing-end : (lefts rights pairs : List ℕ) (place : ℕ) → place ≡ length lefts → IsPairing lefts rights pairs place → ArePaired lefts rights pairs
-IsPairing-end lefts rights pairs place end so_far = record { count = so_far.count ∙ end; left = so_far.left; right = so_far.right }
 
 -- the pairs are the roots of the states that were found
 pub roots_numbered : (left right : Half) (found : Found) (lefts rights pairs : List ℕ)
