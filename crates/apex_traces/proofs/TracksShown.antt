@@ -1,14 +1,14 @@
 -- What a trace shows of a moment gives the text of the moment.
-use Rattle.std.proofs.Common.{◌≡◌, ◌∙◌, ℕ, zero, suc, ◌<◌, true, List, [], ◌∷◌, ◌++◌, Option, None, Some, refl, sym, ap, append-nil, append_assoc, arith}
+use Rattle.std.proofs.Common.{◌≡◌, ◌∙◌, ℕ, zero, suc, ◌<◌, true, List, [], ◌∷◌, ◌++◌, Option, None, Some, refl, sym, ap, append-nil, append_assoc}
 use Rattle.std.proofs.lemmas.Bool.{eq-eqb}
 use Rattle.std.proofs.lemmas.List.{map-append}
 use Rattle.std.specs.Prelude.{Bool, map, flat_map, length, slice_get, slice_index_or, codes, if◌then◌else◌}
 use Rattle.apex_machine.specs.text.Listing.{texts_of}
 use Rattle.apex_machine.specs.processes.Roster.{Roster, record_at}
-use Rattle.apex_machine.specs.processes.Running.{chosen, process_state}
+use Rattle.apex_machine.specs.processes.Running.{chosen, is_process, process_state}
+use Rattle.apex_machine.proofs.States.{is_found}
 use Rattle.apex_store.proofs.States.{running_chosen}
 use Rattle.apex_machine.specs.table.Table.{Table}
-use Rattle.apex_types.specs.declared.limits.TheConstants.{MOST_CORES}
 use Rattle.apex_types.specs.declared.modes.State.TheVariants as states
 use Rattle.apex_traces.specs.Trace.{objects_text}
 use Rattle.apex_traces.specs.Arrows.{arrow_id, goal_of, has_slice, head_at, head_of, head_to, roused, tail_at, tail_of, tail_to}
@@ -19,13 +19,13 @@ use Rattle.apex_moments.specs.Places.{of_places}
 use Rattle.apex_moments.specs.Terms.{Caller, Entry, Notice, State}
 use Rattle.apex_moments.specs.declared.moments.Cell.{Cell}
 use Rattle.apex_traces.specs.Trace as trace
-use Rattle.apex_traces.specs.Tracks.{Runs, bare, bare_cell, bare_cells, cell_on, track_of}
+use Rattle.apex_traces.specs.Tracks.{bare, bare_cell, bare_cells, cell_on, track_of}
 use Rattle.apex_moments.specs.Words.{notice_word}
 use Rattle.apex_traces.specs.declared.calls.Span.{Span}
 use Rattle.apex_traces.specs.Beings.{being_in, being_of, is_begun, same_being}
 use Rattle.apex_traces.specs.declared.beings.Being.{Being}
 use Rattle.apex_traces.specs.declared.beings.Being.TheVariants.{Dormant, Ready, Running, Waiting, Normal, Start, Time, Period, Semaphore, Buffer, Blackboard, EventFlag, Mutex}
-use Rattle.apex_moments.proofs.Places.{length_of, place_of}
+use Rattle.apex_moments.proofs.Places.{place_of}
 
 -- the values of places, changed one by one
 map_places : {A B : Type 0} → (f : A → B) (g : ℕ → A) (n : ℕ) → map f (of_places g n) ≡ of_places (λ i. f (g i)) n
@@ -199,15 +199,11 @@ pub foot_same : (table : Table) (time : ℕ) (last : Shown)
 foot_same table time last =
     ap (λ l. l ++ trace.mutexes_text table time last.counts.owners [] ++ codes "\n]}\n") (changes_same table time last none_shown)
 
--- the track of a process that a core runs
-pub track_runs : (roster : Roster) (p : ℕ) (running : List (Option ℕ)) → running ≡ running_in roster → Runs running p
-    → track_of roster p ≡ Running
-track_runs roster p running is runs =
-    let core = runs.0 in
-    let many : length running ≡ MOST_CORES = ap (λ (l : List (Option ℕ)). length l) is ∙ length_of (chosen roster) MOST_CORES in
-    let within : core < MOST_CORES = omega (arith, runs.1, many) in
-    let chose : chosen roster core ≡ Some p =
-    sym (ap (λ (l : List (Option ℕ)). slice_index_or l core None) is ∙ place_of (chosen roster) MOST_CORES core None within) ∙ runs.2 in
+-- the track of a process that its core runs
+pub track_running : (roster : Roster) (core p : ℕ) (running : Option ℕ) → running ≡ chosen roster core
+    → is_process p running ≡ true → track_of roster p ≡ Running
+track_running roster core p running is found =
+    let chose : chosen roster core ≡ Some p = sym is ∙ is_found p running found in
     ap (λ (s : State). being_of s (record_at roster p).wait) ((running_chosen roster p).running core chose)
 
 -- the track of a ready process

@@ -1,5 +1,5 @@
 -- The processes and the counts after an entry, as a trace shows them: of each cell what the slice shows.
-use Rattle.std.specs.Prelude.{◌≡◌, ℕ, ◌<◌, Bool, true, false, List, [], length, map, Option, None, Some, slice_index_or}
+use Rattle.std.specs.Prelude.{ℕ, List, [], length, map, Option, None, Some}
 use Rattle.apex_moments.specs.Moments.{Shown, cell_of}
 use Rattle.apex_moments.specs.Places.{of_places}
 use Rattle.apex_moments.specs.Terms.{State, Wait}
@@ -55,11 +55,3 @@ bare shown = record {
   running = shown.running;
   counts = shown.counts;
 }
-
--- a core runs process p, given the process that each core runs
-abbrev pub Runs : List (Option ℕ) → ℕ → Type 0
-Runs running p = (core : ℕ) × (core < length running) × (slice_index_or running core None ≡ Some p)
-
--- the marked places are of processes that a core runs
-abbrev pub AreRunners : List Bool → List (Option ℕ) → Type 0
-AreRunners marks running = (p : ℕ) → slice_index_or marks p false ≡ true → Runs running p

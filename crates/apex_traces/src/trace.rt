@@ -25,7 +25,7 @@ use crate::escapes::add_escaped;
 use crate::mutexes::{add_mutex_ends, put_mutex_names};
 use crate::pieces::{ARROW, CALL, DIGITS, MARK, Piece, TRACK, add, add_number, add_text};
 use crate::stamps::{FRONT, TIMED, Timed, add_begin_front, add_end_front, add_stamp};
-use crate::tracks::{Tracks, is_still, runners_of, track_at, track_by};
+use crate::tracks::{Tracks, is_still, track_at, track_by};
 use apex_configs::Table;
 use apex_dispatch::Kernel;
 use apex_json::MOST_ESCAPE;
@@ -472,12 +472,12 @@ pub(crate) fn add_processes<S: Store>(
         ≡ of_places (track_of (S.roster store.now)) (length (S.roster store.now).records) }
     ensures short { array_vec_len piece.new ≤ array_vec_len piece.old + TRACK * MOST_PROCESSES }
 {
-    let runners = runners_of(running);
     for place in 0..store.process_count() {
         let process = ProcessId::at(place as u8);
+        let fields = store.record(process);
         let before = tracks[place];
-        if !is_still(store, process, runners[place], running, &before) {
-            let track = track_by(store, process, running);
+        if !is_still(store, process, fields, running, &before) {
+            let track = track_by(store, process, fields, running);
             add_process(piece, table, process, time, stamp, &before, &track);
             tracks[place] = track;
         }

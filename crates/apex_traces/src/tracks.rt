@@ -1,11 +1,12 @@
 //! The processes and the counts after an entry, as a trace shows them.
-ghost use Rattle.std.specs.Prelude.{◌≡◌, ◌⊎◌, ◌<◌, ◌≤◌, ◌++◌, ℕ, Some, IsTrue, false, true, length, map, slice_index_or, OnOk};
+ghost use Rattle.std.specs.Prelude.{◌≡◌, ◌<◌, ◌≤◌, ◌++◌, IsTrue, length, map, slice_index_or, OnOk};
 ghost use Rattle.apex_types.specs.declared.limits.TheConstants.{MOST_CORES, MOST_PROCESSES};
 ghost use Rattle.apex_calls.specs.Lines.{IsPrintable};
+ghost use Rattle.apex_machine.specs.processes.Roster.{record_at};
 ghost use Rattle.apex_moments.specs.Counts.{HasCounts, counts_of};
 ghost use Rattle.apex_moments.specs.Moments.{moment_in, moment_of, running_in};
 ghost use Rattle.apex_traces.specs.Trace.{column_text};
-ghost use Rattle.apex_traces.specs.Tracks.{AreRunners, Runs, bare, cell_on, track_of};
+ghost use Rattle.apex_traces.specs.Tracks.{bare, cell_on, track_of};
 ghost use Rattle.apex_traces.specs.declared.beings.Being.TheVariants.{Dormant};
 
 use crate::beings::{Being, being_of, is_awaiting};
@@ -16,7 +17,10 @@ use crate::stamps::Timed;
 use crate::trace::{add_call, add_notices, add_processes, add_runs};
 use apex_configs::Table;
 use apex_dispatch::{Kernel, Objects};
-use apex_moments::{CORES, Counts, counts_of, put_bytes, running_of, state_of};
+use apex_machine::Record;
+use apex_moments::{
+    CORES, Counts, counts_of, is_process, put_bytes, running_at, running_of, state_of,
+};
 use apex_store::Store;
 use apex_types::{LentEntry, MOST_CORES, MOST_PROCESSES, ProcessId, State};
 use arrayvec::ArrayVec;
@@ -53,18 +57,18 @@ impl Model for Tracks {
     } };
 }
 
-/// What the track of a process shows, given the process that each core runs.
+/// What the track of the process of this record shows, given the process that each core runs.
 #[inline(always)]
 pub(crate) fn track_by<S: Store>(
     store: &S,
     process: ProcessId,
+    fields: &Record,
     running: &[Option<ProcessId>],
 ) -> Being
-    requires known { process < length (S.roster store.now).records }
+    requires fields { fields.now ≡ record_at (S.roster store.now) process }
     requires running { running.now ≡ running_in (S.roster store.now) }
     ensures { result ≡ track_of (S.roster store.now) process }
 {
-    let fields = store.record(process);
     prove!(u32::from(fields.core.number()) < MOST_CORES);
     being_of(
         state_of(process, fields, store.mode(), running),
@@ -72,51 +76,20 @@ pub(crate) fn track_by<S: Store>(
     )
 }
 
-/// Marks the place of the process that a core runs, if it runs one.
-#[inline(always)]
-fn mark(marks: &mut [bool; MOST_PROCESSES], running: &Option<ProcessId>)
-    ensures { (p : ℕ) → slice_index_or marks.new p false ≡ true
-        → (slice_index_or marks.old p false ≡ true) ⊎ (running.now ≡ Some p) }
-{
-    if let Some(process) = running {
-        if process.place() < MOST_PROCESSES {
-            marks[process.place()] = true;
-        }
-    }
-}
-
-/// Of the process at each place, whether a core runs it, given the process that each core runs.
-#[inline(always)]
-pub(crate) fn runners_of(running: &[Option<ProcessId>]) -> [bool; MOST_PROCESSES]
-    ensures { AreRunners result running.now }
-{
-    let mut marks = [false; MOST_PROCESSES];
-    for process in running {
-        mark(&mut marks, process);
-    }
-    marks
-}
-
-/// The track of a process still shows this, given whether a core runs the process, and the process
-/// that each core runs. It looks at no more of the record than that takes, and at none of a process
-/// that still runs; if it answers no, the track may show it too.
+/// The track of the process of this record still shows this. It looks at no more of the record than
+/// that takes; if it answers no, the track may show it too.
 #[inline(always)]
 pub(crate) fn is_still<S: Store>(
     store: &S,
     process: ProcessId,
-    runs: bool,
+    fields: &Record,
     running: &[Option<ProcessId>],
     being: &Being,
 ) -> bool
-    requires known { process < length (S.roster store.now).records }
-    requires runs { IsTrue runs → Runs running.now process }
+    requires fields { fields.now ≡ record_at (S.roster store.now) process }
     requires running { running.now ≡ running_in (S.roster store.now) }
     ensures { IsTrue result → track_of (S.roster store.now) process ≡ being.now }
 {
-    if let Being::Running = being {
-        return runs;
-    }
-    let fields = store.record(process);
     prove!(u32::from(fields.core.number()) < MOST_CORES);
     match being {
         Being::Dormant => !fields.started,
@@ -124,6 +97,7 @@ pub(crate) fn is_still<S: Store>(
             state_of(process, fields, store.mode(), running),
             State::Ready
         ),
+        Being::Running => is_process(process, running_at(running, fields.core)),
         _ => is_awaiting(being, &fields.wait) && fields.started,
     }
 }
@@ -136,7 +110,9 @@ fn tracks_of<S: Store>(store: &S, counts: Counts) -> Tracks
     let running = running_of(store);
     let mut tracks = ArrayVec::new();
     for place in 0..store.process_count() {
-        tracks.push(track_by(store, ProcessId::at(place as u8), running.as_slice()));
+        let process = ProcessId::at(place as u8);
+        let fields = store.record(process);
+        tracks.push(track_by(store, process, fields, running.as_slice()));
     }
     Tracks {
         tracks,

@@ -1,26 +1,32 @@
--- A process that a core runs is the chosen one of that core, and a chosen process is running.
+-- The process that its core runs is the chosen one, and a chosen process is running.
 use Rattle.std.proofs.Common.{◌≡◌, ◌∙◌, ◌<◌, ℕ, List, Option, None, ap, arith, sym}
 use Rattle.std.specs.Prelude.{slice_index_or}
 use Rattle.apex_machine.specs.processes.Running.{chosen, process_state}
 use Rattle.apex_types.specs.declared.limits.TheConstants.{MOST_CORES}
 use Rattle.apex_types.specs.declared.modes.State.TheVariants as states
 use Rattle.apex_moments.proofs.Places.{place_of}
-use Rattle.apex_traces.proofs.TracksShown.{track_ready, track_runs}
+use Rattle.apex_traces.proofs.TracksShown.{track_ready, track_running}
 use Rattle.apex_traces.proofs.tracks.is_still.Goals as goal
-
-pub returns-in-Running : goal.returns-in-Running
-returns-in-Running g c h =
-    track_runs (g.S.Store.roster c.args.store.now) c.args.process c.args.running.now c.requires.running (c.requires.runs h)
-    ∙ sym c.in-Running.is
 
 pub returns-in-Ready-matches : goal.returns-in-Ready-matches
 returns-in-Ready-matches g c h =
     let roster = g.S.Store.roster c.args.store.now in
-    let core = c.record-fields.result.now.core in
+    let core = c.args.fields.now.core in
     let bound : core < MOST_CORES = omega (arith, c.number.ensures.value, c.number.ensures.range) in
     let here : slice_index_or c.args.running.now core None ≡ chosen roster core =
     ap (λ (l : List (Option ℕ)). slice_index_or l core None) c.requires.running
     ∙ place_of (chosen roster) MOST_CORES core None bound in
     let ready : process_state roster c.args.process ≡ states.Ready =
-    rw (here, c.mode.ensures, c.record-fields.ensures) at (sym c.state_of.ensures ∙ c.in-Ready-matches.is) in
+    rw (here, c.mode.ensures, c.requires.fields) at (sym c.state_of.ensures ∙ c.in-Ready-matches.is) in
     track_ready roster c.args.process ready ∙ sym c.in-Ready.is
+
+pub returns-in-Running : goal.returns-in-Running
+returns-in-Running g c h =
+    let roster = g.S.Store.roster c.args.store.now in
+    let core = c.args.fields.now.core in
+    let bound : core < MOST_CORES = omega (arith, c.number.ensures.value, c.number.ensures.range) in
+    let here : slice_index_or c.args.running.now core None ≡ chosen roster core =
+    ap (λ (l : List (Option ℕ)). slice_index_or l core None) c.requires.running
+    ∙ place_of (chosen roster) MOST_CORES core None bound in
+    track_running roster core c.args.process c.running_at.result (c.running_at.ensures.value ∙ here) (sym c.is_process.ensures ∙ h)
+    ∙ sym c.in-Running.is

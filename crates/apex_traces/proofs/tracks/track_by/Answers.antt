@@ -9,9 +9,9 @@ use Rattle.apex_traces.proofs.tracks.track_by.Goals as goal
 pub returns : goal.returns
 returns g c =
     let roster = g.S.Store.roster c.args.store.now in
-    let core = c.record-fields.result.now.core in
+    let core = c.args.fields.now.core in
     let bound : core < MOST_CORES = omega (arith, c.number.ensures.value, c.number.ensures.range) in
     let here : slice_index_or c.args.running.now core None ≡ chosen roster core =
     ap (λ (l : List (Option ℕ)). slice_index_or l core None) c.requires.running
     ∙ place_of (chosen roster) MOST_CORES core None bound in
-    rw (c.being_of.ensures, c.state_of.ensures, here, c.mode.ensures, c.record-fields.ensures) refl
+    rw (c.being_of.ensures, c.state_of.ensures, here, c.mode.ensures, c.requires.fields) refl

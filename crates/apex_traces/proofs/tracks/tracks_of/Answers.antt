@@ -13,7 +13,7 @@ loop-place-preserved g c =
       many = c.push.ensures.len ∙ ap (λ n. n + 1) c.loop-place.invariant.many;
       running = c.loop-place.invariant.running;
       items = place_next (track_of roster) c.loop-place.place _ _ _ c.loop-place.invariant.items c.push.ensures.items
-          (rw c.at.ensures at c.track_by.ensures);
+          (rw c.at-process.ensures at c.track_by.ensures);
     }
 
 pub returns : goal.returns
