@@ -200,7 +200,7 @@ fn text_in<R: Abort>(rt: &R, alloc: Global, case: &Case) -> Vec<u8> {
 fn ended_so(outcome: &Result<Shown, ShowFault>, end: End) -> bool {
     match (outcome, end) {
         (Ok(Shown::Complete), End::Complete) => true,
-        (Ok(Shown::Departed(verdict)), End::Departs) => verdict.as_str() == VERDICT,
+        (Ok(Shown::Departed(verdict)), End::Departs) => verdict.as_slice() == VERDICT.as_bytes(),
         (Err(ShowFault::Empty(empty)), End::Empty(line)) => window_line(*empty).as_str() == line,
         (Err(ShowFault::NoProcess(name)), End::NoProcess(wanted)) => {
             name.as_bytes() == wanted.as_bytes()
