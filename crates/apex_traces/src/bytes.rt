@@ -1,9 +1,29 @@
 //! Bytes in a buffer of fixed room. A text of known length is copied by a few instructions, and one of
 //! any length by a call.
-ghost use Rattle.std.specs.Prelude.{◌≡◌, ◌+◌, ◌^◌, ◌<◌, ◌≤◌, [], ◌∷◌, ◌++◌, length};
+ghost use Rattle.std.specs.Prelude.{◌≡◌, ◌+◌, ◌^◌, ◌<◌, ◌≤◌, [], ◌∷◌, ◌++◌, length, take};
 ghost use Rattle.arrayvec.specs.ArrayVec.{array_vec_len};
 
 use std::marker::Model;
+
+/// The bytes of a short copy of known length: fewer are copied by a call.
+const SHORT: usize = 4;
+
+/// The bytes of a copy of middle length.
+const MIDDLE: usize = 2 * SHORT;
+
+/// The bytes of a long copy: more than two of them are copied by a call.
+const LONG: usize = 2 * MIDDLE;
+
+/// A copy of the first bytes.
+#[inline(always)]
+fn first_of<const N: usize>(bytes: &[u8]) -> [u8; N]
+    requires { N ≤ length bytes.now }
+    ensures { result ≡ take N bytes.now }
+{
+    let mut copy = [0; N];
+    copy.copy_from_slice(&bytes[..N]);
+    copy
+}
 
 /// Bytes in a buffer of fixed room.
 #[derive(Drop)]
@@ -74,7 +94,8 @@ impl<const ROOM: usize> Bytes<ROOM> {
         self.count += more.len() as u32;
     }
 
-    /// Appends these bytes by two copies of the same length, which overlap.
+    /// Appends these bytes by two copies of the same length, which overlap. Both are loaded before
+    /// one is stored: so a compiler need not ask whether the bytes lie in the buffer itself.
     #[inline(always)]
     fn extend_by_ends<const N: usize>(&mut self, more: &[u8])
         requires covers { (N ≤ length more.now) × (length more.now ≤ N + N) }
@@ -83,9 +104,11 @@ impl<const ROOM: usize> Bytes<ROOM> {
         ensures len { array_vec_len self.new ≡ array_vec_len self.old + length more.now }
     {
         let (place, last) = (self.count as usize, more.len() - N);
+        let front = first_of::<N>(more);
+        let back = first_of::<N>(&more[last..]);
         let cells = &mut self.cells[..];
-        cells[place..place + N].copy_from_slice(&more[..N]);
-        cells[place + last..place + more.len()].copy_from_slice(&more[last..]);
+        cells[place..place + N].copy_from_slice(&front);
+        cells[place + last..place + more.len()].copy_from_slice(&back);
         self.count += more.len() as u32;
     }
 
@@ -98,14 +121,14 @@ impl<const ROOM: usize> Bytes<ROOM> {
         ensures len { array_vec_len self.new ≡ array_vec_len self.old + length more.now }
     {
         let count = more.len();
-        if count < 4 || count > 32 {
+        if count < SHORT || count > 2 * LONG {
             self.extend(more);
-        } else if count <= 8 {
-            self.extend_by_ends::<4>(more);
-        } else if count <= 16 {
-            self.extend_by_ends::<8>(more);
+        } else if count <= 2 * SHORT {
+            self.extend_by_ends::<SHORT>(more);
+        } else if count <= 2 * MIDDLE {
+            self.extend_by_ends::<MIDDLE>(more);
         } else {
-            self.extend_by_ends::<16>(more);
+            self.extend_by_ends::<LONG>(more);
         }
     }
 
@@ -119,8 +142,9 @@ impl<const ROOM: usize> Bytes<ROOM> {
         ensures short { array_vec_len self.new ≤ array_vec_len self.old + N }
     {
         let place = self.count as usize;
+        let copy = more.cells;
         let cells = &mut self.cells[..];
-        cells[place..place + N].copy_from_slice(&more.cells);
+        cells[place..place + N].copy_from_slice(&copy);
         self.count += more.count;
     }
 }
