@@ -438,11 +438,11 @@ pub(crate) fn add_runs<S: Store>(
     ensures short { array_vec_len piece.new ≤ array_vec_len piece.old + TRACK * MOST_CORES }
 {
     for place in 0..table.cores() {
-        let core = CoreId::new(place);
-        let (before, after) = (running[usize::from(place)], store.chosen(core));
+        let (core, here) = (CoreId::new(place), usize::from(place));
+        let (before, after) = (running[here], store.chosen(core));
         add_core(piece, table, core, time, stamp, &before, &after);
         if !is_same_process(&before, &after) {
-            running[usize::from(place)] = after;
+            running[here] = after;
         }
     }
     // The table has no core from here on.

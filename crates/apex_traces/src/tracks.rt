@@ -98,9 +98,9 @@ fn is_run<S: Store>(store: &S, process: ProcessId, running: &[Option<ProcessId>]
     requires running { running.now ≡ running_in (S.roster store.now) }
     ensures { IsTrue result → track_of (S.roster store.now) process ≡ Running }
 {
-    let core = store.record(process).core;
-    prove!(u32::from(core.number()) < MOST_CORES);
-    is_process(process, running_at(running, core))
+    let fields = store.record(process);
+    prove!(u32::from(fields.core.number()) < MOST_CORES);
+    is_process(process, running_at(running, fields.core))
 }
 
 /// The process waits, and is shown as this.
