@@ -4,6 +4,7 @@ ghost use Rattle.std.specs.Prelude.{◌≡◌, ◌+◌, ◌^◌, ◌<◌, ◌≤
 ghost use Rattle.arrayvec.specs.ArrayVec.{array_vec_len};
 
 use std::marker::Model;
+use std::simd::Simd;
 
 /// The bytes of a short copy of known length: fewer are copied by a call.
 const SHORT: usize = 4;
@@ -14,15 +15,14 @@ const MIDDLE: usize = 2 * SHORT;
 /// The bytes of a long copy: more than two of them are copied by a call.
 const LONG: usize = 2 * MIDDLE;
 
-/// A copy of the first bytes.
+/// Puts the first N bytes at a place, by one load and one store. N is a power of two.
 #[inline(always)]
-fn first_of<const N: usize>(bytes: &[u8]) -> [u8; N]
-    requires { N ≤ length bytes.now }
-    ensures { result ≡ take N bytes.now }
+fn put_front<const N: usize>(cells: &mut [u8], place: usize, bytes: &[u8])
+    requires { (N ≤ length bytes.now) × (place + N ≤ length cells.old) }
+    ensures kept { take (place + N) cells.new ≡ take place cells.old ++ take N bytes.now }
+    ensures len { length cells.new ≡ length cells.old }
 {
-    let mut copy = [0; N];
-    copy.copy_from_slice(&bytes[..N]);
-    copy
+    Simd::<u8, N>::from_slice(bytes).copy_to_slice(&mut cells[place..]);
 }
 
 /// Bytes in a buffer of fixed room.
@@ -94,8 +94,7 @@ impl<const ROOM: usize> Bytes<ROOM> {
         self.count += more.len() as u32;
     }
 
-    /// Appends these bytes by two copies of the same length, which overlap. Both are loaded before
-    /// one is stored: so a compiler need not ask whether the bytes lie in the buffer itself.
+    /// Appends these bytes by two copies of the same length, which overlap.
     #[inline(always)]
     fn extend_by_ends<const N: usize>(&mut self, more: &[u8])
         requires covers { (N ≤ length more.now) × (length more.now ≤ N + N) }
@@ -104,11 +103,9 @@ impl<const ROOM: usize> Bytes<ROOM> {
         ensures len { array_vec_len self.new ≡ array_vec_len self.old + length more.now }
     {
         let (place, last) = (self.count as usize, more.len() - N);
-        let front = first_of::<N>(more);
-        let back = first_of::<N>(&more[last..]);
         let cells = &mut self.cells[..];
-        cells[place..place + N].copy_from_slice(&front);
-        cells[place + last..place + more.len()].copy_from_slice(&back);
+        put_front::<N>(cells, place, more);
+        put_front::<N>(cells, place + last, &more[last..]);
         self.count += more.len() as u32;
     }
 
@@ -142,6 +139,7 @@ impl<const ROOM: usize> Bytes<ROOM> {
         ensures short { array_vec_len self.new ≤ array_vec_len self.old + N }
     {
         let place = self.count as usize;
+        // A copy of its own: so a compiler need not ask whether the two buffers overlap.
         let copy = more.cells;
         let cells = &mut self.cells[..];
         cells[place..place + N].copy_from_slice(&copy);
