@@ -35,6 +35,17 @@ fn gather<W: Drop, S: System<Workspace = W>>(
     Ok(expansions)
 }
 
+/// Gives the expansions back, one to each desk.
+pub(crate) fn give_back<W: Drop>(desks: &mut [Desk<W>], expansions: Vec<Expansion>) {
+    let mut expansions = expansions;
+    for place in 0..desks.len() {
+        match expansions.pop() {
+            Some(expansion) => desks[place].give_back(expansion),
+            None => {}
+        }
+    }
+}
+
 /// Makes each choice in the states of each desk, until one hits there. A thread works at each desk, if one
 /// can be made for it. Fails only for want of memory.
 pub(crate) fn expand_all<R: Threads + Sync, W: Drop + Send, S: System<Workspace = W> + Sync>(

@@ -7,12 +7,13 @@ ghost use Rattle.apex_explore.specs.Searches.{AreLeft, IsOver, IsSearched, IsSea
 ghost use Rattle.apex_explore.specs.Systems.{step_within};
 ghost use Rattle.apex_states.specs.Lists.{AllAre};
 
-use crate::expanding::expand_all;
+use crate::expanding::{expand_all, give_back};
 use crate::laying::lay_out_all;
 use crate::taking::take_and_expand;
 use apex_explore::{Answer, Desk, Places, Search, Stop, System, Watch};
 use std::alloc::{AllocError, Global};
 use std::marker::{Send, Sync};
+use std::mem;
 use std::thread::Threads;
 
 /// A desk has at most this many states at once, so that a processor's cache has room for them and for
@@ -227,11 +228,11 @@ impl<'r, R: Threads + Sync> Jobs<'r, R> {
                 Some(stop) => return Ok(Some(stop)),
                 None => {}
             }
+            give_back(desks, mem::replace(&mut expansions, more));
             let Some(places) = search.turn(system) else {
                 return Ok(Some(Stop::Done));
             };
             limit = places.limit;
-            expansions = more;
             end = next;
         }
     }
