@@ -16,9 +16,9 @@ use std::marker::{Send, Sync};
 use std::mem;
 use std::thread::Threads;
 
-/// A desk has at most this many states at once, so that a processor's cache has room for them and for
-/// what is found in them.
-const MOST_AT_DESK: usize = 512;
+/// A desk has at most this many states at once. More take more memory until what is found in them is kept,
+/// and with fewer the threads wait for each other more often.
+const MOST_AT_DESK: usize = 1024;
 
 /// To expand fewer states than this takes less time than to begin a thread.
 const LEAST_AT_DESK: usize = 32;
@@ -228,7 +228,8 @@ impl<'r, R: Threads + Sync> Jobs<'r, R> {
                 Some(stop) => return Ok(Some(stop)),
                 None => {}
             }
-            give_back(desks, mem::replace(&mut expansions, more));
+            let kept = mem::replace(&mut expansions, more);
+            give_back(system, desks, kept);
             let Some(places) = search.turn(system) else {
                 return Ok(Some(Stop::Done));
             };
