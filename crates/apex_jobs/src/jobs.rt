@@ -13,12 +13,11 @@ use crate::taking::take_and_expand;
 use apex_explore::{Answer, Desk, Places, Search, Stop, System, Watch};
 use std::alloc::{AllocError, Global};
 use std::marker::{Send, Sync};
-use std::mem;
 use std::thread::Threads;
 
 /// A desk has at most this many states at once. More take more memory until what is found in them is kept,
 /// and with fewer the threads wait for each other more often.
-const MOST_AT_DESK: usize = 1024;
+const MOST_AT_DESK: usize = 2048;
 
 /// To expand fewer states than this takes less time than to begin a thread.
 const LEAST_AT_DESK: usize = 32;
@@ -228,8 +227,8 @@ impl<'r, R: Threads + Sync> Jobs<'r, R> {
                 Some(stop) => return Ok(Some(stop)),
                 None => {}
             }
-            let kept = mem::replace(&mut expansions, more);
-            give_back(system, desks, kept);
+            give_back(system, desks, expansions);
+            expansions = more;
             let Some(places) = search.turn(system) else {
                 return Ok(Some(Stop::Done));
             };
