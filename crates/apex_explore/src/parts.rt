@@ -1,7 +1,8 @@
 //! What the choices in some states of a level do, found beside the search.
-ghost use Rattle.std.specs.Prelude.{◌≡◌, ◌+◌, ◌^◌, ◌<◌, ◌≤◌, length, slice_get, Some, IfOk};
+ghost use Rattle.std.specs.Prelude.{◌≡◌, ◌+◌, ◌^◌, ◌<◌, ◌≤◌, length, slice_get, Some, IfOk, IfSome};
 ghost use Rattle.apex_explore.specs.Parts.{Expands, FindsMore, IsExpansion, IsFilling};
 ghost use Rattle.apex_explore.specs.Systems.{step_within};
+ghost use Rattle.apex_states.specs.Finds.{no_finds};
 ghost use Rattle.apex_states.specs.Lists.{AllAre};
 
 use crate::systems::{System, Taken};
@@ -60,24 +61,48 @@ fn expand_state<S: System>(
     Ok(None)
 }
 
-/// Makes each choice in the states of the batch, until one hits. Fails only for want of memory.
+/// No finds, of states of `width` words each, with the memory of the spare ones, if there are some. Fails
+/// only for want of memory.
+fn cleared(
+    alloc: Global,
+    width: usize,
+    expected: usize,
+    spare: Option<Finds>,
+) -> Result<Finds, AllocError>
+    requires { IfSome spare (λ finds. finds.width ≡ width) }
+    ensures { IfOk result (λ finds. finds ≡ no_finds width) }
+{
+    match spare {
+        Some(mut finds) => {
+            finds.clear();
+            Ok(finds)
+        }
+        None => Finds::new(alloc, width, expected),
+    }
+}
+
+/// Makes each choice in the states of the batch, until one hits. What is found has the memory of the spare
+/// finds, if there are some. Fails only for want of memory.
 pub(crate) fn expand_batch<S: System>(
     alloc: Global,
     system: &S,
     workspace: &mut S::Workspace,
     next: &mut [u64],
     batch: &Batch,
+    spare: Option<Finds>,
 ) -> Result<Expansion, AllocError>
     requires width { batch.now.width ≡ S.word_count system.now }
     requires fits { batch.now.first + length batch.now.states ≤ 2 ^ 32 }
     requires states { AllAre (S.is_state system.now) batch.now.states }
     requires next { length next.old ≡ S.word_count system.now }
     requires workspace { S.is_workspace system.now workspace.old }
+    requires spare { IfSome spare (λ finds. finds.width ≡ S.word_count system.now) }
     ensures expansion { let step = step_within (S.choice_count system.now) (S.step system.now) in
         IfOk result (IsExpansion step (S.word_count system.now) (S.is_state system.now) batch.now) }
     ensures workspace { IfOk result (λ _. S.is_workspace system.now workspace.new) }
 {
-    let mut finds = Finds::new(alloc, system.width(), batch.len().saturating_mul(2))?;
+    let expected = batch.len().saturating_mul(2);
+    let mut finds = cleared(alloc, system.width(), expected, spare)?;
     for at in 0..batch.len() {
         let place = batch.first() + at;
         let hit = expand_state(system, workspace, batch.state(at), next, place, &mut finds)?;

@@ -10,9 +10,9 @@ use Rattle.apex_explore.specs.declared.desks.Desk.{Desk}
 use Rattle.apex_explore.specs.declared.fronts.Front.{Front}
 use Rattle.apex_explore.specs.declared.parts.Expansion.{Expansion}
 use Rattle.apex_explore.proofs.Parting.{Expanded-later}
-use Rattle.apex_jobs.specs.Rounds.{AreExpansions, AreGathered, AreLaidOut}
+use Rattle.apex_jobs.specs.Rounds.{AreExpansions, AreGathered, AreLaidOut, IsWide}
 use Rattle.apex_states.specs.Batches.{Copies}
-use Rattle.apex_states.specs.Lists.{IsFront}
+use Rattle.apex_states.specs.Lists.{AllAre, IsFront}
 use Rattle.apex_states.specs.States.{Reached}
 use Rattle.apex_states.proofs.Probing.{last_or_before}
 use Rattle.apex_jobs.proofs.Layouts.{get_set}
@@ -37,6 +37,11 @@ AreExpansions-fit step is_state reached front limit expansions level are = recor
   level = level;
   each = are.each;
 }
+
+-- states of expansions have as many words as those that were expanded
+pub AreExpansions-wide : (step : List ℕ → ℕ → Step (List ℕ)) (is_state : List ℕ → Type 0) (reached : Reached) (from limit : ℕ) (expansions : List Expansion)
+    → AreExpansions step is_state reached from limit expansions → AllAre (IsWide reached.width) expansions
+AreExpansions-wide step is_state reached from limit expansions are place expansion is = (are.each place expansion is).is.filling.width
 
 -- What is gathered from desks.
 module _ {W : Type 0} (word_count : ℕ) (is_workspace : W → Type 0) (old : List (Desk W)) where
@@ -118,7 +123,12 @@ made_desk step word_count is_state is_workspace copies desk expansion made is =
     let result : made.made ≡ Ok expansion = same_Some made.made (Ok expansion) (sym made.is ∙ is) in
     let Is : Result Expansion AllocError → Type 0 = λ r. IfOk r (λ _. IsDesk word_count is_workspace desk) in
     let same : IsDesk word_count is_workspace desk = subst Is result made.desk_is in
-    record { workspace = same.workspace; next = same.next; width = same.width }
+    record { workspace = same.workspace; next = same.next; width = same.width; spare = same.spare }
+
+-- a desk that got an expansion back
+pub given_desk : {W : Type 0} (word_count : ℕ) (is_workspace : W → Type 0) (desk : Desk W) (expansion : Expansion)
+    → IsWide word_count expansion → IsDesk word_count is_workspace desk → IsDesk word_count is_workspace (record desk { spare = Some expansion.finds })
+given_desk word_count is_workspace desk expansion wide is = record { workspace = is.workspace; next = is.next; width = is.width; spare = wide }
 
 -- What a call at each member of a list leaves there.
 module _ {X : Type 0} (R : ℕ → X → X → Type 0) (old new : List X) (count : length new ≡ length old)

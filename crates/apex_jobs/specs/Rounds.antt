@@ -51,6 +51,10 @@ pub record AreExpansions (step : List ℕ → ℕ → Step (List ℕ)) (is_state
   pub each : (place : ℕ) (expansion : Expansion) → slice_get expansions place ≡ Some expansion
       → Expanded step is_state reached (start place) (start (place + 1)) expansion
 
+-- the states of the expansion have this many words
+abbrev pub IsWide : ℕ → Expansion → Type 0
+IsWide word_count expansion = expansion.finds.width ≡ word_count
+
 -- the expansions are those that were made at the desks
 pub record AreGathered {W : Type 0} (desks : List (Desk W)) (expansions : List Expansion)
     : Type 0 where

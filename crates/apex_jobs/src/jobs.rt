@@ -7,7 +7,7 @@ ghost use Rattle.apex_explore.specs.Searches.{AreLeft, IsOver, IsSearched, IsSea
 ghost use Rattle.apex_explore.specs.Systems.{step_within};
 ghost use Rattle.apex_states.specs.Lists.{AllAre};
 
-use crate::expanding::expand_all;
+use crate::expanding::{expand_all, give_back};
 use crate::laying::lay_out_all;
 use crate::taking::take_and_expand;
 use apex_explore::{Answer, Desk, Places, Search, Stop, System, Watch};
@@ -15,9 +15,9 @@ use std::alloc::{AllocError, Global};
 use std::marker::{Send, Sync};
 use std::thread::Threads;
 
-/// A desk has at most this many states at once, so that a processor's cache has room for them and for
-/// what is found in them.
-const MOST_AT_DESK: usize = 512;
+/// A desk has at most this many states at once. More take more memory until what is found in them is kept,
+/// and with fewer the threads wait for each other more often.
+const MOST_AT_DESK: usize = 2048;
 
 /// To expand fewer states than this takes less time than to begin a thread.
 const LEAST_AT_DESK: usize = 32;
@@ -227,11 +227,12 @@ impl<'r, R: Threads + Sync> Jobs<'r, R> {
                 Some(stop) => return Ok(Some(stop)),
                 None => {}
             }
+            give_back(system, desks, expansions);
+            expansions = more;
             let Some(places) = search.turn(system) else {
                 return Ok(Some(Stop::Done));
             };
             limit = places.limit;
-            expansions = more;
             end = next;
         }
     }

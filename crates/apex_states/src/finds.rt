@@ -21,7 +21,8 @@ const MOST_AT_FIRST: usize = 4096;
 pub struct Finds {
     states: Rows,
     origins: Vec<Origin>,
-    /// The place of the last state for which there was this slot, by a hash of its words.
+    /// The place of the last state for which there was this slot, by a hash of its words. If states were
+    /// cleared, it can be that of one of these: so the state that is there now is compared.
     recent: Vec<usize>,
 }
 
@@ -52,6 +53,14 @@ impl Finds {
             origins: Vec::new(alloc),
             recent: vec![in alloc; 0; SLOTS]?,
         })
+    }
+
+    /// No states from now on. The memory stays.
+    pub fn clear(&mut self)
+        ensures { self.new ≡ no_finds self.old.width }
+    {
+        self.states.clear();
+        self.origins.clear();
     }
 
     /// The number of states.
