@@ -11,14 +11,6 @@ use apex_types::Reply;
 use std::process::Abort;
 use std::sync::Wait;
 
-/// The reply of a shift's last turn.
-#[derive(Clone, Copy)]
-enum Last {
-    Begun,
-    Done,
-    Idle,
-}
-
 /// The turns of a core's worker.
 #[derive(Clone, Copy)]
 pub struct Shift {
@@ -27,26 +19,16 @@ pub struct Shift {
     made: u32,
     /// The place of the last receipt, and the reply of its entry.
     place: u32,
-    reply: Last,
+    reply: Reply,
     /// The calls of the gate, and the units of work of process 1 on core 0 in all of them.
     calls: u64,
     ticks: u64,
 }
 
-impl Last {
-    fn is_reply(self, reply: Reply) -> bool {
-        match self {
-            Last::Begun => reply == Reply::Begun,
-            Last::Done => reply == Reply::Done,
-            Last::Idle => reply == Reply::Idle,
-        }
-    }
-}
-
 /// Whether this is the receipt of the shift's last turn.
 fn is_last<P: Naming>(last: Option<&Receipt<P>>, shift: Shift) -> bool {
     match last {
-        Some(last) => last.place() == shift.place && shift.reply.is_reply(last.entry().reply),
+        Some(last) => last.place() == shift.place && last.entry().reply == shift.reply,
         None => false,
     }
 }
@@ -101,7 +83,7 @@ const SHIFTS: &[Step] = &[
         asked: 5,
         made: 5,
         place: 5,
-        reply: Last::Begun,
+        reply: Reply::Begun,
         calls: 1,
         ticks: 3,
     }),
@@ -110,7 +92,7 @@ const SHIFTS: &[Step] = &[
         asked: 1,
         made: 1,
         place: 6,
-        reply: Last::Done,
+        reply: Reply::Done,
         calls: 0,
         ticks: 0,
     }),
@@ -121,7 +103,7 @@ const SHIFTS: &[Step] = &[
         asked: 5,
         made: 2,
         place: 8,
-        reply: Last::Idle,
+        reply: Reply::Idle,
         calls: 0,
         ticks: 0,
     }),
