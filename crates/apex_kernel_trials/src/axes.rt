@@ -79,27 +79,44 @@ pub(crate) fn frame_of<R: Abort>(
     frame.expect(rt, "memory")
 }
 
-/// The picture of the run in this frame.
+/// The picture of the run of these events in this style.
 pub(crate) fn drawn<R: Abort>(
     rt: &R,
     alloc: Global,
     text: &str,
-    frame: Frame,
+    style: &Style,
     events: &[Event],
 ) -> Vec<u8>
     requires { All (IsWithin 1) events.now }
 {
     let mut kernel = kernel_of(rt, alloc, text);
     let mut picture = Counted::new(Vec::new(alloc));
-    let style = Style::Svg(frame);
-    let done = draw(alloc, &style, &mut kernel, events, &mut picture);
+    let done = draw(alloc, style, &mut kernel, events, &mut picture);
     drop(kernel);
     done.expect(rt, "memory");
     picture.into_inner()
 }
 
+/// The picture of the run of these events in the frame of `frame_of`.
+pub(crate) fn picture_of<R: Abort>(
+    rt: &R,
+    alloc: Global,
+    text: &str,
+    axis: Axis,
+    fold: bool,
+    events: &[Event],
+    only: Option<&[ProcessId]>,
+) -> Vec<u8>
+    requires { All (IsWithin 1) events.now }
+{
+    let style = Style::Svg(frame_of(rt, alloc, text, axis, fold, events, only));
+    let picture = drawn(rt, alloc, text, &style, events);
+    drop(style);
+    picture
+}
+
 /// Finds each of the texts behind the one before it.
-pub(crate) fn find_in_order<R: Abort>(rt: &R, text: &str, wanted: &[&str]) {
+fn find_in_order<R: Abort>(rt: &R, text: &str, wanted: &[&str]) {
     let mut rest = text;
     for part in wanted {
         let (_, behind) = rest.split_once(*part).expect(rt, "the part");
@@ -107,44 +124,57 @@ pub(crate) fn find_in_order<R: Abort>(rt: &R, text: &str, wanted: &[&str]) {
     }
 }
 
+/// How often the text has this part.
+fn count(text: &str, part: &str) -> usize {
+    text.split(part).count() - 1
+}
+
+/// Checks that the picture has the parts, each behind the one before it, and each of the others as often
+/// as its number says.
+pub(crate) fn has_parts<R: Abort>(
+    rt: &R,
+    picture: &[u8],
+    parts: &[&str],
+    counts: &[(usize, &str)],
+) {
+    let text = str::from_utf8(picture).expect(rt, "a picture is text");
+    find_in_order(rt, text, parts);
+    for (times, part) in counts {
+        assert!(rt; count(text, part) == *times, "{part}");
+    }
+}
+
+/// Along the axis of entries, columns stand side by side.
+const BY_ENTRIES: [&str; 5] = [
+    "data-entry='1' transform='translate(57,0)'",
+    "data-entry='5' transform='translate(185,0)'",
+    "' width='32' height='16'><title>1 P WAITING",
+    "data-entry='6' transform='translate(217,0)'",
+    "data-entry='7' transform='translate(249,0)'",
+];
+
 #[test]
 fn by_entries_columns_stand_side_by_side(rt: HostRuntime) {
     let events = events();
-    let frame = frame_of(&rt, rt.alloc(), TABLE, Axis::Entries, false, &events, None);
-    let picture = drawn(&rt, rt.alloc(), TABLE, frame, &events);
-    let text = str::from_utf8(picture.as_slice()).expect(&rt, "a picture is text");
-    find_in_order(
-        &rt,
-        text,
-        &[
-            "data-entry='1' transform='translate(57,0)'",
-            "data-entry='5' transform='translate(185,0)'",
-            "' width='32' height='16'><title>1 P WAITING",
-            "data-entry='6' transform='translate(217,0)'",
-            "data-entry='7' transform='translate(249,0)'",
-        ],
-    );
+    let picture = picture_of(&rt, rt.alloc(), TABLE, Axis::Entries, false, &events, None);
+    has_parts(&rt, picture.as_slice(), &BY_ENTRIES, &[]);
 }
 
 /// The left edge is at 57: 50, and 7 for a letter. A column has 32 pixels, and each of 22 ticks 8
 /// pixels, 176 in all: they are room of the column before the tick, in which the process waits.
+const BY_TIME: [&str; 7] = [
+    "data-entry='1' transform='translate(57,0)'",
+    "data-entry='5' transform='translate(185,0)'",
+    "' width='208' height='16'><title>1 P WAITING",
+    "data-entry='6' transform='translate(393,0)'",
+    ">t=22</text>",
+    "' width='32' height='16'><title>1 P RUNNING",
+    "data-entry='7' transform='translate(425,0)'",
+];
+
 #[test]
 fn by_time_the_ticks_have_room(rt: HostRuntime) {
     let events = events();
-    let frame = frame_of(&rt, rt.alloc(), TABLE, Axis::Time, false, &events, None);
-    let picture = drawn(&rt, rt.alloc(), TABLE, frame, &events);
-    let text = str::from_utf8(picture.as_slice()).expect(&rt, "a picture is text");
-    find_in_order(
-        &rt,
-        text,
-        &[
-            "data-entry='1' transform='translate(57,0)'",
-            "data-entry='5' transform='translate(185,0)'",
-            "' width='208' height='16'><title>1 P WAITING",
-            "data-entry='6' transform='translate(393,0)'",
-            ">t=22</text>",
-            "' width='32' height='16'><title>1 P RUNNING",
-            "data-entry='7' transform='translate(425,0)'",
-        ],
-    );
+    let picture = picture_of(&rt, rt.alloc(), TABLE, Axis::Time, false, &events, None);
+    has_parts(&rt, picture.as_slice(), &BY_TIME, &[]);
 }

@@ -2,8 +2,7 @@
 ghost use Rattle.std.specs.Prelude.{All};
 ghost use Rattle.apex_machine.specs.Events.{IsWithin};
 
-use crate::axes::{drawn, find_in_order, frame_of};
-use crate::rows::count;
+use crate::axes::{has_parts, picture_of};
 use apex_scales::Axis;
 use apex_types::{CoreId, Event};
 use std::alloc::Global;
@@ -110,18 +109,20 @@ const CASES: [Case; 4] = [
 ];
 
 /// Draws the picture, and looks for its parts.
-fn has_parts<R: Abort>(rt: &R, alloc: Global, case: &Case) {
+fn is_drawn<R: Abort>(rt: &R, alloc: Global, case: &Case) {
     let events = events();
-    let frame = frame_of(rt, alloc, TABLE, case.axis, case.fold, &events, None);
-    let picture = drawn(rt, alloc, TABLE, frame, &events);
-    let text = str::from_utf8(picture.as_slice()).expect(rt, "a picture is text");
-    find_in_order(rt, text, case.parts);
-    assert!(rt; count(text, "class='column'") == case.columns);
+    let picture = picture_of(rt, alloc, TABLE, case.axis, case.fold, &events, None);
+    has_parts(
+        rt,
+        picture.as_slice(),
+        case.parts,
+        &[(case.columns, "class='column'")],
+    );
 }
 
 #[test]
 fn idle_entries_have_no_column_if_they_are_folded(rt: HostRuntime) {
     for case in &CASES {
-        has_parts(&rt, rt.alloc(), case);
+        is_drawn(&rt, rt.alloc(), case);
     }
 }

@@ -1,10 +1,12 @@
 //! The mark of a departure in a picture.
 
-use crate::axes::{drawn, frame_of};
+use crate::axes::{drawn, frame_of, has_parts};
+use apex_drawing::Style;
 use apex_pictures::Mark;
 use apex_scales::Axis;
 use apex_types::{CoreId, Event};
 use std::alloc::Global;
+use std::mem::drop;
 use std::process::Abort;
 
 /// The init steps create the process and start it.
@@ -44,14 +46,14 @@ fn picture_of<R: Abort>(rt: &R, alloc: Global) -> Vec<u8> {
         expected: bytes_of(rt, alloc, "4 0 core0 1 GET_MY_ID -> NO_ERROR:1"),
         given: bytes_of(rt, alloc, "4 0 core0 1 <&\\x09"),
     };
-    drawn(rt, alloc, TABLE, frame.marked(mark), &turns)
+    let style = Style::Svg(frame.marked(mark));
+    let picture = drawn(rt, alloc, TABLE, &style, &turns);
+    drop(style);
+    picture
 }
 
 #[test]
 fn a_departure_stands_behind_the_last_column(rt: HostRuntime) {
     let picture = picture_of(&rt, rt.alloc());
-    let text = str::from_utf8(picture.as_slice()).expect(&rt, "a picture is text");
-    let (_, rest) = text.split_once(MARK).expect(&rt, "the mark");
-    let (_, rest) = rest.split_once(LINES[0]).expect(&rt, "the expected line");
-    assert!(&rt; rest.split_once(LINES[1]).is_some());
+    has_parts(&rt, picture.as_slice(), &[MARK, LINES[0], LINES[1]], &[]);
 }

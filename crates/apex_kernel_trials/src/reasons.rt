@@ -1,10 +1,13 @@
 //! The texts of reasons, one turn after the other.
 
 use crate::scans::{booted, turn_of};
+use apex_dispatch::Kernel;
+use apex_process::QueueStore;
 use apex_reasons::reason_of;
 use apex_table::read_table;
 use apex_types::{CoreId, Event};
 use std::mem::drop;
+use std::process::Abort;
 
 /// A process on each core. The init list has eleven steps, of which the second and the third are
 /// refused.
@@ -156,17 +159,21 @@ const TURNS: [(u8, &str); 38] = [
     (0, "IDLE: the mode is IDLE"),
 ];
 
+/// Takes a turn of the core of this number, before which its reason is this text.
+fn has_reason<R: Abort>(rt: &R, kernel: &mut Kernel<QueueStore>, number: u8, text: &str) {
+    assert!(rt; number < kernel.table().cores());
+    let core = CoreId::new(number);
+    let reason = reason_of(kernel, Event::Turn(core)).text(kernel.table());
+    assert!(rt; reason.as_slice() == text.as_bytes(), "{text}");
+    turn_of(rt, kernel, core);
+}
+
 #[test]
 fn each_turn_has_its_reason(rt: HostRuntime) {
-    let alloc = rt.alloc();
-    let table = read_table(alloc, TABLE.as_bytes()).expect(&rt, "the table is lawful");
-    let mut kernel = booted(&rt, alloc, table);
+    let table = read_table(rt.alloc(), TABLE.as_bytes()).expect(&rt, "the table is lawful");
+    let mut kernel = booted(&rt, rt.alloc(), table);
     for (number, text) in TURNS {
-        assert!(&rt; number < kernel.table().cores());
-        let core = CoreId::new(number);
-        let reason = reason_of(&kernel, Event::Turn(core)).text(kernel.table());
-        assert!(&rt; reason.as_slice() == text.as_bytes(), "{text}");
-        turn_of(&rt, &mut kernel, core);
+        has_reason(&rt, &mut kernel, number, text);
     }
     drop(kernel);
 }

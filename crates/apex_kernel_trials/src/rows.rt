@@ -2,7 +2,7 @@
 ghost use Rattle.std.specs.Prelude.{◌≡◌, All};
 ghost use Rattle.apex_machine.specs.Events.{IsWithin};
 
-use crate::axes::{drawn, find_in_order, frame_of};
+use crate::axes::{has_parts, picture_of};
 use apex_scales::Axis;
 use apex_types::{CoreId, Event, ProcessId};
 use std::alloc::Global;
@@ -48,59 +48,61 @@ fn turns() -> [Event; 13]
 }
 
 /// The picture with rows for these processes, or for all.
-fn picture_of<R: Abort>(rt: &R, alloc: Global, only: Option<&[ProcessId]>) -> Vec<u8> {
+fn picture_with<R: Abort>(rt: &R, alloc: Global, only: Option<&[ProcessId]>) -> Vec<u8> {
     let turns = turns();
-    let frame = frame_of(rt, alloc, TABLE, Axis::Entries, false, &turns, only);
-    drawn(rt, alloc, TABLE, frame, &turns)
+    picture_of(rt, alloc, TABLE, Axis::Entries, false, &turns, only)
 }
 
-/// How often the text has this part.
-pub(crate) fn count(text: &str, part: &str) -> usize {
-    text.split(part).count() - 1
-}
+/// The parts of the picture with the rows of high and of low, in this order.
+const TWO_ROWS: [&str; 12] = [
+    "' height='480'",
+    "data-entry='13'",
+    "</title>SIGNAL_SEMAPHORE s -&gt; NO_ERROR\n</text>",
+    "data-process='2' y='356'",
+    "data-process='3' y='380'",
+    "<line class='woken' x1='16' x2='16' y1='388' y2='360'/>",
+    "<circle class='ring' data-process='3' cx='16' cy='388'",
+    "<path class='woken' data-process='2' d='M11,358",
+    "<text class='core' x='8' y='345'>core 0</text>",
+    "<text x='20' y='369'>2 high</text>",
+    "<text x='20' y='393'>3 low</text>",
+    "<text x='20' y='21'>2 of 3 processes</text>",
+];
+
+/// How often it has these parts.
+const NO_IDLER: [(usize, &str); 2] = [(0, "data-process='1'"), (0, "idler</text>")];
 
 #[test]
 fn rows_stay_in_the_order_of_the_table(rt: HostRuntime) {
     let only = [ProcessId::at(2), ProcessId::at(1)];
-    let picture = picture_of(&rt, rt.alloc(), Some(&only));
-    let text = str::from_utf8(picture.as_slice()).expect(&rt, "a picture is text");
-    assert!(&rt; count(text, "data-process='1'") == 0 && count(text, "idler</text>") == 0);
-    find_in_order(
-        &rt,
-        text,
-        &[
-            "' height='480'",
-            "data-entry='13'",
-            "</title>SIGNAL_SEMAPHORE s -&gt; NO_ERROR\n</text>",
-            "data-process='2' y='356'",
-            "data-process='3' y='380'",
-            "<line class='woken' x1='16' x2='16' y1='388' y2='360'/>",
-            "<circle class='ring' data-process='3' cx='16' cy='388'",
-            "<path class='woken' data-process='2' d='M11,358",
-            "<text class='core' x='8' y='345'>core 0</text>",
-            "<text x='20' y='369'>2 high</text>",
-            "<text x='20' y='393'>3 low</text>",
-            "<text x='20' y='21'>2 of 3 processes</text>",
-        ],
-    );
+    let picture = picture_with(&rt, rt.alloc(), Some(&only));
+    has_parts(&rt, picture.as_slice(), &TWO_ROWS, &NO_IDLER);
 }
 
-/// The call and the ring of low are left out, and the line from there; the wedge of high stays.
+/// How often the picture with the row of high has these parts. The call and the ring of low are left out,
+/// and the line from there; the wedge of high stays.
+const ONE_ROW: [(usize, &str); 7] = [
+    (0, "SIGNAL_SEMAPHORE"),
+    (0, "<line class='woken'"),
+    (1, "<circle class='ring' data-process="),
+    (1, "</title>WAIT_SEMAPHORE s infinite"),
+    (3, "</title>CREATE_PROCESS"),
+    (1, "<path class='woken' data-process='2'"),
+    (1, "1 of 3 processes"),
+];
+
 #[test]
 fn marks_of_processes_without_a_row_are_left_out(rt: HostRuntime) {
-    let picture = picture_of(&rt, rt.alloc(), Some(&[ProcessId::at(1)]));
-    let text = str::from_utf8(picture.as_slice()).expect(&rt, "a picture is text");
-    assert!(&rt; count(text, "SIGNAL_SEMAPHORE") == 0 && count(text, "<line class='woken'") == 0);
-    assert!(&rt; count(text, "<circle class='ring' data-process=") == 1);
-    assert!(&rt; count(text, "</title>WAIT_SEMAPHORE s infinite") == 1);
-    assert!(&rt; count(text, "</title>CREATE_PROCESS") == 3);
-    assert!(&rt; count(text, "<path class='woken' data-process='2'") == 1);
-    assert!(&rt; count(text, "1 of 3 processes") == 1);
+    let only = [ProcessId::at(1)];
+    let picture = picture_with(&rt, rt.alloc(), Some(&only));
+    has_parts(&rt, picture.as_slice(), &[], &ONE_ROW);
 }
+
+/// How often the picture with all rows has these parts.
+const ALL_ROWS: [(usize, &str); 2] = [(1, "3 low</text>"), (0, " processes</text>")];
 
 #[test]
 fn a_picture_with_all_rows_has_no_note(rt: HostRuntime) {
-    let picture = picture_of(&rt, rt.alloc(), None);
-    let text = str::from_utf8(picture.as_slice()).expect(&rt, "a picture is text");
-    assert!(&rt; count(text, "3 low</text>") == 1 && count(text, " processes</text>") == 0);
+    let picture = picture_with(&rt, rt.alloc(), None);
+    has_parts(&rt, picture.as_slice(), &[], &ALL_ROWS);
 }

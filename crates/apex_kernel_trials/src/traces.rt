@@ -1,11 +1,9 @@
 //! What a trace says of itself, its counters, the slices of its processes, its mutexes and its calls,
 //! and the marks and the arrows of its notices.
 
-use crate::scans::booted;
-use apex_drawing::{Style, draw};
-use apex_history::Counted;
+use crate::axes::drawn;
+use apex_drawing::Style;
 use apex_scales::TickLength;
-use apex_table::read_table;
 use apex_types::{CoreId, Event};
 use std::alloc::Global;
 use std::mem::drop;
@@ -232,16 +230,12 @@ script = []
 
 /// The trace of 16 turns, with ticks of this many microseconds.
 fn trace_of<R: Abort>(rt: &R, alloc: Global, table: &str, tick: u32) -> Vec<u8> {
-    let table = read_table(alloc, table.as_bytes()).expect(rt, "the table is lawful");
-    assert!(rt; table.cores() == 1);
-    let mut kernel = booted(rt, alloc, table);
-    let turns = [Event::Turn(CoreId::new(0)); 16];
-    let mut trace = Counted::new(Vec::new(alloc));
     let tick = TickLength::new(tick).expect(rt, "a tick may have this length");
-    let drawn = draw(alloc, &Style::Trace(tick), &mut kernel, &turns, &mut trace);
-    drop(kernel);
-    drawn.expect(rt, "memory");
-    trace.into_inner()
+    let style = Style::Trace(tick);
+    let turns = [Event::Turn(CoreId::new(0)); 16];
+    let trace = drawn(rt, alloc, table, &style, &turns);
+    drop(style);
+    trace
 }
 
 /// What follows the word in the text, if it is in it.
@@ -280,11 +274,22 @@ fn has_lines(text: &str, word: &str, lines: &[&str]) -> bool {
     behind(rest, word).is_none()
 }
 
+/// Checks that the trace of the table has these lines of a kind.
+fn follows<R: Abort>(
+    rt: &R,
+    alloc: Global,
+    (table, tick): (&str, u32),
+    word: &str,
+    lines: &[&str],
+) {
+    let trace = trace_of(rt, alloc, table, tick);
+    let text = str::from_utf8(trace.as_slice()).expect(rt, "a trace is text");
+    assert!(rt; has_lines(text, word, lines));
+}
+
 #[test]
 fn a_trace_follows_the_entries(rt: HostRuntime) {
     for (table, tick, word, lines) in TRACES {
-        let trace = trace_of(&rt, rt.alloc(), table, tick);
-        let text = str::from_utf8(trace.as_slice()).expect(&rt, "a trace is text");
-        assert!(rt; has_lines(text, word, lines));
+        follows(&rt, rt.alloc(), (table, tick), word, lines);
     }
 }

@@ -1,5 +1,5 @@
 //! Histories that depart, explained.
-use crate::papers::paper;
+use crate::papers::{held_by, paper};
 use apex_check::{CheckFault, Verdict};
 use apex_departures::explain;
 use apex_history::{Counted, FailAt};
@@ -159,86 +159,89 @@ fn text_of<R: Abort>(rt: &R, alloc: Global, count: usize, lines: &[u8]) -> Vec<u
     text
 }
 
-/// The end on a text, and all that was written, on devices whose calls of these numbers fail.
+/// The end on the text of `count` lines of the history and of these lines, and all that was written, on
+/// devices whose calls of these numbers fail.
 fn told<R: Abort>(
     rt: &R,
     alloc: Global,
-    form: Form,
-    comments: bool,
-    text: Vec<u8>,
-    failing: (u64, u64),
+    (form, comments): (Form, bool),
+    (count, lines): (usize, &[u8]),
+    (failing_read, failing_write): (u64, u64),
 ) -> (Result<Verdict, CheckFault>, Vec<u8>) {
-    let mut reader = Counted::new(FailAt::new(text, failing.0));
-    let mut writer = Counted::new(paper(rt, alloc, 8_192, failing.1));
+    let text = text_of(rt, alloc, count, lines);
+    let mut reader = Counted::new(FailAt::new(text, failing_read));
+    let mut writer = Counted::new(paper(rt, alloc, 8_192, failing_write));
     let end = explain(alloc, form, comments, &mut reader, &mut writer);
-    let device = writer.into_inner();
-    let mut held = Vec::new(alloc);
-    held.extend_from_slice(device.held()).expect(rt, "memory");
+    let held = held_by(rt, alloc, writer.into_inner());
     (end, held)
 }
 
-/// Checks that the text has this explanation.
+/// Checks that these lines behind `count` lines of the history have this explanation.
 fn is_explained<R: Abort>(
     rt: &R,
     alloc: Global,
-    form: Form,
-    comments: bool,
-    text: Vec<u8>,
+    (form, comments): (Form, bool),
+    (count, lines): (usize, &[u8]),
     want: &str,
 ) {
-    let (end, held) = told(rt, alloc, form, comments, text, (0, 0));
+    let (end, held) = told(rt, alloc, (form, comments), (count, lines), (0, 0));
     assert!(rt; end.is_ok());
     assert!(rt; held.as_slice() == want.as_bytes(), "{want}");
 }
 
 #[test]
 fn each_departure_is_explained(rt: HostRuntime) {
-    let alloc = rt.alloc();
     for (count, lines, want) in DEPARTURES {
-        let text = text_of(&rt, alloc, count, lines);
-        is_explained(&rt, alloc, Form::Text, false, text, want);
+        is_explained(&rt, rt.alloc(), (Form::Text, false), (count, lines), want);
     }
 }
 
 #[test]
 fn each_departure_is_an_object(rt: HostRuntime) {
-    let alloc = rt.alloc();
     for (count, lines, want) in OBJECTS {
-        let text = text_of(&rt, alloc, count, lines);
-        is_explained(&rt, alloc, Form::Json, false, text, want);
+        is_explained(&rt, rt.alloc(), (Form::Json, false), (count, lines), want);
     }
 }
 
 #[test]
 fn comments_are_left_out(rt: HostRuntime) {
-    let alloc = rt.alloc();
     for (lines, want) in COMMENTED {
-        let text = text_of(&rt, alloc, 0, lines.as_bytes());
-        is_explained(&rt, alloc, Form::Text, true, text, want);
+        is_explained(
+            &rt,
+            rt.alloc(),
+            (Form::Text, true),
+            (0, lines.as_bytes()),
+            want,
+        );
     }
 }
 
-/// Checks that the text has this fault on devices whose calls of these numbers fail, and that nothing
-/// is written.
+/// Checks that these lines behind `count` lines of the history have this fault on devices whose calls of
+/// these numbers fail, and that nothing is written.
 fn is_refused<R: Abort>(
     rt: &R,
     alloc: Global,
     comments: bool,
-    text: Vec<u8>,
+    (count, lines): (usize, &[u8]),
     failing: (u64, u64),
     want: CheckFault,
 ) {
-    let (end, held) = told(rt, alloc, Form::Text, comments, text, failing);
+    let (end, held) = told(rt, alloc, (Form::Text, comments), (count, lines), failing);
     assert!(rt; end.is_err_and(|fault| fault == want));
     assert!(rt; held.is_empty());
 }
 
 #[test]
 fn faults_count_comments(rt: HostRuntime) {
-    let alloc = rt.alloc();
     for (lines, comments, want) in FAULTS {
-        let text = text_of(&rt, alloc, 0, lines.as_bytes());
-        is_refused(&rt, alloc, comments, text, (0, 0), want);
+        is_refused(
+            &rt,
+            rt.alloc(),
+            comments,
+            (0, lines.as_bytes()),
+            (0, 0),
+            want,
+        );
     }
 }
 
@@ -250,9 +253,7 @@ const FAILING: [((u64, u64), CheckFault); 2] = [
 
 #[test]
 fn a_failed_call_is_told(rt: HostRuntime) {
-    let alloc = rt.alloc();
     for (failing, want) in FAILING {
-        let text = text_of(&rt, alloc, 7, b"");
-        is_refused(&rt, alloc, false, text, failing, want);
+        is_refused(&rt, rt.alloc(), false, (7, b""), failing, want);
     }
 }

@@ -2,8 +2,9 @@
 
 use apex_console::{CliFault, given_words};
 use linked_list_allocator::LocalHeap;
-use std::alloc::Allocator;
+use std::alloc::{Allocator, Global};
 use std::env::{Env, FillError};
+use std::process::Abort;
 
 /// The number of words: their list takes more memory than the reading of one of them.
 const WORDS: usize = 32;
@@ -66,6 +67,21 @@ fn a_word_that_is_no_text_is_usage(rt: HostRuntime) {
     assert!(rt; given.err() == Some(CliFault::Usage));
 }
 
+/// Whether a heap of this many steps has memory for the words. If it has none, that is the fault.
+fn has_memory<'a, R: Abort>(rt: &R, alloc: Global, words: &'a [&'a [u8]], steps: usize) -> bool {
+    let heap = LocalHeap::new(alloc, steps.saturating_mul(STEP)).expect(rt, "memory for the heap");
+    match given_words(&(&Given { words }, &heap)) {
+        Ok(given) => {
+            assert!(rt; are_words(given.as_slice(), words));
+            true
+        }
+        Err(fault) => {
+            assert_eq!(rt; fault, CliFault::Memory);
+            false
+        }
+    }
+}
+
 /// A heap that is one step longer refuses a later request, up to the last one.
 #[test]
 fn a_refused_request_is_want_of_memory(rt: HostRuntime) {
@@ -73,16 +89,10 @@ fn a_refused_request_is_want_of_memory(rt: HostRuntime) {
     let mut is_refused = false;
     let mut is_given = false;
     for steps in 0..STEPS {
-        let heap = LocalHeap::new(rt.alloc(), steps * STEP).expect(&rt, "memory for the heap");
-        match given_words(&(&Given { words: &words }, &heap)) {
-            Ok(given) => {
-                assert!(rt; are_words(given.as_slice(), &words));
-                is_given = true;
-            }
-            Err(fault) => {
-                assert_eq!(rt; fault, CliFault::Memory);
-                is_refused = true;
-            }
+        if has_memory(&rt, rt.alloc(), &words, steps) {
+            is_given = true;
+        } else {
+            is_refused = true;
         }
     }
     assert!(rt; is_refused && is_given);

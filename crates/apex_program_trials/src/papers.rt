@@ -8,3 +8,10 @@ pub fn paper<R: Abort>(rt: &R, alloc: Global, room: usize, call: u64) -> FailAt 
     let bytes = Vec::with_capacity(alloc, room).expect(rt, "memory");
     FailAt::new(bytes, call)
 }
+
+/// What was written on a device.
+pub fn held_by<R: Abort>(rt: &R, alloc: Global, device: FailAt) -> Vec<u8> {
+    let mut held = Vec::new(alloc);
+    held.extend_from_slice(device.held()).expect(rt, "memory");
+    held
+}

@@ -1,10 +1,11 @@
 //! Whole sessions: what is written on the text of a table and of commands.
-use crate::papers::paper;
+use crate::papers::{held_by, paper};
 use apex_history::{Counted, FailAt};
 use apex_objects::Form;
 use apex_steps::{StepFault, serve_steps};
 use std::alloc::Global;
 use std::io::{self, Error, ErrorKind, Read, Write};
+use std::mem::drop;
 use std::process::Abort;
 
 /// The eight init steps create and start both processes and the semaphore, and enter NORMAL.
@@ -112,34 +113,37 @@ fn text_of<R: Abort>(rt: &R, alloc: Global, lines: &[u8]) -> Vec<u8> {
     text
 }
 
-/// A session over these lines: its end, and all that it wrote on a device whose call of this number
-/// fails.
+/// A session in this form over these lines: its end, and all that it wrote on a device whose call of this
+/// number fails.
 fn talk<R: Abort>(
     rt: &R,
     alloc: Global,
+    form: Form,
     lines: &[u8],
-    failing_read: u64,
-    failing_write: u64,
+    (failing_read, failing_write): (u64, u64),
 ) -> (Result<(), StepFault>, Vec<u8>) {
     let text = text_of(rt, alloc, lines);
     let mut reader = Counted::new(FailAt::new(text, failing_read));
     let mut writer = Counted::new(paper(rt, alloc, 8_192, failing_write));
-    let end = serve_steps(alloc, Form::Text, &mut reader, &mut writer);
-    let device = writer.into_inner();
-    let mut held = Vec::new(alloc);
-    held.extend_from_slice(device.held()).expect(rt, "memory");
+    let end = serve_steps(alloc, form, &mut reader, &mut writer);
+    let held = held_by(rt, alloc, writer.into_inner());
     (end, held)
 }
 
-/// What is said on these lines behind the init steps.
-fn said_on<R: Abort>(rt: &R, alloc: Global, lines: &[u8]) -> String {
-    let (end, held) = talk(rt, alloc, lines, 0, 0);
-    assert!(rt; end.is_ok());
-    let said = String::from_utf8(held).expect(rt, "the answers are text");
-    match said.as_str().split_once("| released 2\nok 8\n") {
-        Some((_, behind)) => String::from_str(alloc, behind).expect(rt, "memory"),
+/// What an answer has behind the init steps.
+fn behind_init(said: &str) -> &str {
+    match said.split_once("| released 2\nok 8\n") {
+        Some((_, behind)) => behind,
         None => said,
     }
+}
+
+/// Checks that this is said on these lines behind the init steps.
+fn is_said<R: Abort>(rt: &R, alloc: Global, lines: &[u8], want: &str) {
+    let (end, held) = talk(rt, alloc, Form::Text, lines, (0, 0));
+    assert!(rt; end.is_ok());
+    let said = str::from_utf8(held.as_slice()).expect(rt, "the answers are text");
+    assert_eq!(rt; behind_init(said), want);
 }
 
 /// What is said in objects behind the init steps on a line that is refused, on a wait of process 1, on
@@ -156,66 +160,104 @@ const OBJECTS: &str = r#"{"ok":8}
 
 #[test]
 fn each_line_is_answered_in_objects(rt: HostRuntime) {
-    let text = text_of(&rt, rt.alloc(), b"2\n0\nnext\nfront\n");
-    let mut reader = Counted::new(FailAt::new(text, 0));
-    let mut writer = Counted::new(paper(&rt, rt.alloc(), 8_192, 0));
-    let end = serve_steps(rt.alloc(), Form::Json, &mut reader, &mut writer);
+    let (end, held) = talk(&rt, rt.alloc(), Form::Json, b"2\n0\nnext\nfront\n", (0, 0));
     assert!(rt; end.is_ok());
-    let device = writer.into_inner();
-    assert!(rt; device.held().ends_with(OBJECTS.as_bytes()));
+    assert!(rt; held.as_slice().ends_with(OBJECTS.as_bytes()));
 }
 
 #[test]
 fn each_line_is_answered(rt: HostRuntime) {
     for (lines, want) in TALKS {
-        let said = said_on(&rt, rt.alloc(), lines.as_bytes());
-        assert_eq!(rt; said.as_str(), want, "on {lines}");
+        is_said(&rt, rt.alloc(), lines.as_bytes(), want);
     }
+}
+
+/// The number of bytes of a line, and what is said on it and on `front`.
+const LONG_LINES: [(usize, &str); 3] = [
+    (4_096, "fault no command\nfront 8 0 1 2\nok 8\n"),
+    (4_097, "fault line too long\nfront 8 0 1 2\nok 8\n"),
+    (30_000, "fault line too long\nfront 8 0 1 2\nok 8\n"),
+];
+
+/// Checks that the line of this length, without a line feed, has none, and that this is said on it with
+/// one, and on `front`.
+fn is_long<R: Abort>(rt: &R, alloc: Global, length: usize, want: &str) {
+    let mut lines = Vec::new(alloc);
+    lines.resize(length, b'x').expect(rt, "memory");
+    is_said(rt, alloc, lines.as_slice(), "fault no line feed\n");
+    lines.extend_from_slice(b"\nfront\n").expect(rt, "memory");
+    is_said(rt, alloc, lines.as_slice(), want);
 }
 
 #[test]
 fn a_line_that_is_too_long_is_refused(rt: HostRuntime) {
-    let alloc = rt.alloc();
-    for length in [4_096, 4_097, 30_000] {
-        let mut lines = Vec::new(alloc);
-        lines.resize(length, b'x').expect(&rt, "memory");
-        let said = said_on(&rt, alloc, lines.as_slice());
-        assert_eq!(rt; said.as_str(), "fault no line feed\n", "at {length} bytes");
-        lines.extend_from_slice(b"\nfront\n").expect(&rt, "memory");
-        let want = if length == 4_096 {
-            "fault no command\nfront 8 0 1 2\nok 8\n"
-        } else {
-            "fault line too long\nfront 8 0 1 2\nok 8\n"
-        };
-        let said = said_on(&rt, alloc, lines.as_slice());
-        assert_eq!(rt; said.as_str(), want, "at {length} bytes");
+    for (length, want) in LONG_LINES {
+        is_long(&rt, rt.alloc(), length, want);
     }
+}
+
+/// What a session has written of the whole when it ends.
+#[derive(Clone, Copy)]
+enum Part {
+    Nothing,
+    Prefix,
+    All,
+}
+
+impl Part {
+    fn is_part(self, held: &[u8], whole: &[u8]) -> bool {
+        match self {
+            Part::Nothing => held.is_empty(),
+            Part::Prefix => whole.starts_with(held),
+            Part::All => held == whole,
+        }
+    }
+}
+
+/// The numbers of the read and of the write that fail, the end, and what is written.
+///
+/// Four answers, each written and flushed; the listing is written before its last line.
+const FAILING: [((u64, u64), Result<(), StepFault>, Part); 12] = [
+    ((1, 0), Err(StepFault::Read), Part::Nothing),
+    ((2, 0), Err(StepFault::Read), Part::All),
+    ((0, 1), Err(StepFault::Write), Part::Prefix),
+    ((0, 2), Err(StepFault::Write), Part::Prefix),
+    ((0, 3), Err(StepFault::Write), Part::Prefix),
+    ((0, 4), Err(StepFault::Write), Part::Prefix),
+    ((0, 5), Err(StepFault::Write), Part::Prefix),
+    ((0, 6), Err(StepFault::Write), Part::Prefix),
+    ((0, 7), Err(StepFault::Write), Part::Prefix),
+    ((0, 8), Err(StepFault::Write), Part::Prefix),
+    ((0, 9), Err(StepFault::Write), Part::Prefix),
+    ((0, 10), Ok(()), Part::All),
+];
+
+/// Lines of which each call fails in turn.
+const FAILED: &[u8] = b"0\nstate\n1\n";
+
+/// Checks that the session over these lines, whose calls of these numbers fail, ends so, and writes this
+/// part of the whole.
+fn is_ended<R: Abort>(
+    rt: &R,
+    alloc: Global,
+    failing: (u64, u64),
+    want: Result<(), StepFault>,
+    part: Part,
+    whole: &[u8],
+) {
+    let (end, held) = talk(rt, alloc, Form::Text, FAILED, failing);
+    assert!(rt; end == want);
+    assert!(rt; part.is_part(held.as_slice(), whole));
 }
 
 #[test]
 fn a_failed_call_ends_the_session(rt: HostRuntime) {
-    let alloc = rt.alloc();
-    let lines = b"0\nstate\n1\n".as_slice();
-    let (end, whole) = talk(&rt, alloc, lines, 0, 0);
+    let (end, whole) = talk(&rt, rt.alloc(), Form::Text, FAILED, (0, 0));
     assert!(rt; end.is_ok());
-    let (end, held) = talk(&rt, alloc, lines, 1, 0);
-    assert!(rt; end == Err(StepFault::Read));
-    assert!(rt; held.is_empty());
-    let (end, held) = talk(&rt, alloc, lines, 2, 0);
-    assert!(rt; end == Err(StepFault::Read));
-    assert!(rt; held.as_slice() == whole.as_slice());
-    // Four answers, each written and flushed; the listing is written before its last line.
-    for call in 1..=9 {
-        let (end, held) = talk(&rt, alloc, lines, 0, call);
-        assert!(rt; end == Err(StepFault::Write), "call {call}");
-        assert!(rt;
-            whole.as_slice().starts_with(held.as_slice()),
-            "call {call}"
-        );
+    for (failing, want, part) in FAILING {
+        is_ended(&rt, rt.alloc(), failing, want, part, whole.as_slice());
     }
-    let (end, held) = talk(&rt, alloc, lines, 0, 10);
-    assert!(rt; end.is_ok());
-    assert!(rt; held.as_slice() == whole.as_slice());
+    drop(whole);
 }
 
 /// A text of which a read gives one line. The read of this number fails, counted from 1.
@@ -293,25 +335,41 @@ const ANSWERS: [(&str, &str); 6] = [
     ("next\n", "next - 1\nok 9\n"),
 ];
 
-#[test]
-fn an_answer_is_flushed_before_the_next_line_is_read(rt: HostRuntime) {
-    let alloc = rt.alloc();
-    let mut text = text_of(&rt, alloc, b"");
+/// The text of the table and of the lines.
+fn text_of_answers<R: Abort>(rt: &R, alloc: Global) -> Vec<u8> {
+    let mut text = text_of(rt, alloc, b"");
     for (line, _) in ANSWERS {
-        text.extend_from_slice(line.as_bytes())
-            .expect(&rt, "memory");
+        text.extend_from_slice(line.as_bytes()).expect(rt, "memory");
     }
-    // The table's lines, and the one with the init steps.
-    let mut read: u32 = 1;
+    text
+}
+
+/// The number of the read behind those of the table's lines and of the one with the init steps.
+fn read_behind_init() -> u32 {
+    let mut read: u32 = 2;
     for byte in TABLE.as_bytes() {
         read = read.saturating_add(u32::from(*byte == b'\n'));
     }
-    let mut want = shown_before(&rt, alloc, text.as_slice(), read.saturating_add(1));
+    read
+}
+
+/// Checks that this is shown when the read of this number fails.
+fn is_shown<R: Abort>(rt: &R, alloc: Global, text: &[u8], read: u32, want: &str) {
+    let shown = shown_before(rt, alloc, text, read);
+    assert_eq!(rt; shown.as_str(), want, "read {read}");
+}
+
+#[test]
+fn an_answer_is_flushed_before_the_next_line_is_read(rt: HostRuntime) {
+    let text = text_of_answers(&rt, rt.alloc());
+    let mut read = read_behind_init();
+    let mut want = shown_before(&rt, rt.alloc(), text.as_slice(), read);
     assert!(rt; want.as_str().ends_with("| released 2\nok 8\n"));
     for (_, answer) in ANSWERS {
         read = read.saturating_add(1);
         want.push_str(answer).expect(&rt, "memory");
-        let shown = shown_before(&rt, alloc, text.as_slice(), read.saturating_add(1));
-        assert_eq!(rt; shown.as_str(), want.as_str(), "read {read}");
+        is_shown(&rt, rt.alloc(), text.as_slice(), read, want.as_str());
     }
+    drop(want);
+    drop(text);
 }

@@ -1,5 +1,6 @@
 //! Tables with several faults; the faults that are wanted follow from the order of the checks.
 
+use crate::papers::has_text;
 use apex_faults::{faults, left_out};
 use std::alloc::Global;
 use std::mem::drop;
@@ -86,8 +87,7 @@ fn has_faults<R: Abort>(rt: &R, alloc: Global, text: &str, expected: &[&str]) {
     let found = faults(alloc, text.as_bytes()).expect(rt, "memory");
     assert!(rt; found.len() == expected.len());
     for (fault, line) in found.iter().zip(expected) {
-        let text = format!(in alloc; "{fault}").expect(rt, "memory");
-        assert!(rt; text.as_str() == *line);
+        assert!(rt; has_text(rt, alloc, fault, *line));
     }
     drop(found);
 }

@@ -1,13 +1,14 @@
 //! The report of a history that is written by hand, as JSON: that of the lines, with names of which
 //! JSON escapes a byte, and a mutex that nobody owns.
 
+use crate::histories::log_of;
 use crate::papers::paper;
-use crate::reports::fill;
+use crate::reports::HISTORY;
 use apex_configs::Table;
 use apex_history::{Counted, FailAt, Log};
 use apex_report::{print_report_json, report_of};
 use apex_table::read_table;
-use apex_types::{DeadlineType, MOST_ENTRIES, Notice, ProcessId, ReturnCode};
+use apex_types::MOST_ENTRIES;
 use std::alloc::Global;
 use std::mem::drop;
 use std::process::Abort;
@@ -71,13 +72,9 @@ fn printed<R: Abort>(rt: &R, alloc: Global, table: &Table, log: &Log, room: usiz
 #[test]
 fn figures_are_members_of_json_objects(rt: HostRuntime) {
     let table = read_table(rt.alloc(), TABLE.as_bytes()).expect(&rt, "the table is lawful");
-    let mut log = Log::new(rt.alloc(), 16).expect(&rt, "memory");
-    let (control, logger) = (ProcessId::at(0), ProcessId::at(1));
-    let released = [Notice::Released(control), Notice::Released(logger)];
-    let timed_out = [Notice::Woken(logger, ReturnCode::TimedOut)];
-    let missed = [Notice::Missed(control, DeadlineType::Soft)];
-    fill(&mut log, &released[..1], &released, &timed_out, &missed);
+    let log = log_of(&rt, rt.alloc(), &HISTORY);
     let paper = printed(&rt, rt.alloc(), &table, &log, ROOM);
     assert!(rt; paper.held().starts_with(FRONT.as_bytes()));
+    drop(log);
     drop(table);
 }

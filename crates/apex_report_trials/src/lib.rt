@@ -6,6 +6,8 @@
 #[cfg(test)]
 mod faults;
 #[cfg(test)]
+mod histories;
+#[cfg(test)]
 mod json_reports;
 #[cfg(test)]
 mod lints;

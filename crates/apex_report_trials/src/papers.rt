@@ -1,10 +1,16 @@
-//! A device in memory to write on.
+//! A device in memory to write on, and the texts of things.
 use apex_history::FailAt;
 use std::alloc::Global;
+use std::fmt::Display;
 use std::process::Abort;
 
 /// An empty device with room for `room` bytes, whose call of this number fails.
 pub fn paper<R: Abort>(rt: &R, alloc: Global, room: usize, call: u64) -> FailAt {
     let bytes = Vec::with_capacity(alloc, room).expect(rt, "memory");
     FailAt::new(bytes, call)
+}
+
+/// Whether the thing has this text.
+pub fn has_text<R: Abort, D: Display>(rt: &R, alloc: Global, thing: &D, text: &str) -> bool {
+    thing.to_string(alloc).expect(rt, "memory").as_str() == text
 }

@@ -1,17 +1,14 @@
 //! The report of a history that is written by hand: two jobs of a periodic process, of which the
 //! second misses its deadline, and one job of an aperiodic process, a wait of which times out.
 
-ghost use Rattle.std.specs.Prelude.{◌<◌, ◌≤◌, length};
-
+use crate::histories::{Answer, Asked, BLOCKED, Effect, Maker, Row, STARTED, log_of};
 use crate::papers::paper;
 use apex_configs::Table;
 use apex_history::{Counted, FailAt, Log};
 use apex_report::{print_report, report_of};
 use apex_table::read_table;
 use apex_types::{
-    Call, Caller, CallerCall, CoreId, DeadlineType, LentEntry, MOST_ENTRIES, Notice, PartitionCall,
-    ProcessId, Reply, RequestedMode, ReturnCode, SemaphoreCall, SemaphoreId, SemaphoreService,
-    Span, TimeCall, Timeout, Who,
+    CallerCall, MOST_ENTRIES, Reply, ReturnCode, SemaphoreService, TimeCall, Timeout,
 };
 use std::alloc::Global;
 use std::mem::drop;
@@ -64,139 +61,71 @@ service WAIT_SEMAPHORE \
 NO_ACTION=0 NOT_AVAILABLE=1 INVALID_PARAM=0 INVALID_CONFIG=0 INVALID_MODE=0
 ";
 
-/// The entry of a call of the process at the core of its number.
-pub(crate) fn called(now: u64, process: u8, call: Call, reply: Reply) -> LentEntry<'static>
-    requires { process < 2 }
-{
-    LentEntry {
-        number: 1,
-        now,
-        who: Who::Core(CoreId::new(process)),
-        process: Caller::Process(ProcessId::at(process)),
-        call: Some(call),
-        reply,
-        notices: &[],
-    }
-}
-
-/// The entry of a tick.
-pub(crate) fn ticked<'n>(now: u64, ticks: u32, notices: &'n [Notice]) -> LentEntry<'n>
-    requires { length notices.now ≤ 2 }
-{
-    LentEntry {
-        number: 1,
-        now,
-        who: Who::Ticker,
-        process: Caller::Nobody,
-        call: None,
-        reply: Reply::Advanced(ticks, ticks),
-        notices,
-    }
-}
-
-/// The entry of core 0 that releases both processes.
-pub(crate) fn normal<'n>(notices: &'n [Notice]) -> LentEntry<'n>
-    requires { length notices.now ≤ 2 }
-{
-    let call = PartitionCall::SetPartitionMode(RequestedMode::Normal);
-    LentEntry {
-        number: 1,
-        now: 0,
-        who: Who::Core(CoreId::new(0)),
-        process: Caller::Init,
-        call: Some(Call::Partition(call)),
-        reply: Reply::Code(ReturnCode::NoError),
-        notices,
-    }
-}
-
-/// An idle turn of core 1.
-fn idle(now: u64) -> LentEntry<'static> {
-    LentEntry {
-        number: 1,
-        now,
-        who: Who::Core(CoreId::new(1)),
-        process: Caller::Nobody,
-        call: None,
-        reply: Reply::Idle,
-        notices: &[],
-    }
-}
-
 /// A wait of LOGGER for its semaphore.
-fn waits(timeout: Timeout) -> Call {
-    let service = SemaphoreService::Wait(timeout);
-    Call::Semaphore(SemaphoreCall::KindService(SemaphoreId::at(0), service))
-}
+const WAITS: Maker = Maker::Process(
+    1,
+    Asked::Semaphore(SemaphoreService::Wait(Timeout::Ticks(4))),
+);
 
-/// Puts the entry last, with its number.
-pub(crate) fn push_next(log: &mut Log, entry: &LentEntry<'_>) {
-    if log.is_full() {
-        return;
-    }
-    let limit = log.limit();
-    prove!(limit <= MOST_ENTRIES);
-    log.push(&LentEntry {
-        number: log.len() as u32 + 1,
-        now: entry.now,
-        who: entry.who,
-        process: entry.process,
-        call: entry.call,
-        reply: entry.reply,
-        notices: entry.notices,
-    });
-}
+/// Its second wait.
+const POLLS: Maker = Maker::Process(1, Asked::Semaphore(SemaphoreService::Wait(Timeout::Poll)));
 
-/// Puts the entries of the history into the log. Its notices are the release of CONTROL, those of both
-/// processes, a wait of LOGGER that times out, and the deadline that CONTROL misses.
-pub(crate) fn fill(
-    log: &mut Log,
-    control: &[Notice],
-    both: &[Notice],
-    timed_out: &[Notice],
-    missed: &[Notice],
-)
-    requires control { length control.now ≤ 2 }
-    requires both { length both.now ≤ 2 }
-    requires timed_out { length timed_out.now ≤ 2 }
-    requires missed { length missed.now ≤ 2 }
-{
-    let none: [Notice; 0] = [];
-    let refused = Reply::Code(ReturnCode::NotAvailable);
-    push_next(log, &normal(both));
-    push_next(log, &called(0, 1, waits(Timeout::Ticks(4)), Reply::Blocked));
-    push_next(log, &ticked(3, 3, &none));
-    push_next(
-        log,
-        &called(3, 0, Call::Time(TimeCall::PeriodicWait), Reply::Blocked),
-    );
-    push_next(log, &ticked(4, 1, timed_out));
-    push_next(log, &called(4, 1, waits(Timeout::Poll), refused));
-    push_next(log, &ticked(10, 6, control));
-    push_next(log, &called(10, 0, Call::Work(Span::of(5)), Reply::Begun));
-    push_next(log, &ticked(16, 6, missed));
-    push_next(log, &called(16, 0, Call::Work(Span::of(5)), Reply::Done));
-    push_next(log, &ticked(18, 2, &none));
-    push_next(
-        log,
-        &called(18, 0, Call::Time(TimeCall::PeriodicWait), Reply::Blocked),
-    );
-    push_next(
-        log,
-        &called(18, 1, Call::Caller(CallerCall::StopSelf), Reply::Gone),
-    );
-    push_next(log, &idle(18));
-    push_next(log, &ticked(20, 2, control));
-}
+/// The end of a job of CONTROL.
+const ENDS: Maker = Maker::Process(0, Asked::Time(TimeCall::PeriodicWait));
+
+/// Work of CONTROL.
+const WORKS: Maker = Maker::Process(0, Asked::Work(5));
+
+/// The refusal of the second wait.
+const REFUSED: Answer = Answer::As(Reply::Code(ReturnCode::NotAvailable));
+
+/// The history. Its notices are the releases of both processes, a wait of LOGGER that times out, the
+/// releases of CONTROL, and the deadline that it misses.
+pub(crate) const HISTORY: [Row; 15] = [
+    STARTED,
+    (0, WAITS, BLOCKED, &[]),
+    (3, Maker::Ticker, Answer::As(Reply::Advanced(3, 3)), &[]),
+    (3, ENDS, BLOCKED, &[]),
+    (
+        4,
+        Maker::Ticker,
+        Answer::As(Reply::Advanced(1, 1)),
+        &[Effect::Woken(1, ReturnCode::TimedOut)],
+    ),
+    (4, POLLS, REFUSED, &[]),
+    (
+        10,
+        Maker::Ticker,
+        Answer::As(Reply::Advanced(6, 6)),
+        &[Effect::Released(0)],
+    ),
+    (10, WORKS, Answer::As(Reply::Begun), &[]),
+    (
+        16,
+        Maker::Ticker,
+        Answer::As(Reply::Advanced(6, 6)),
+        &[Effect::Missed(0)],
+    ),
+    (16, WORKS, Answer::As(Reply::Done), &[]),
+    (18, Maker::Ticker, Answer::As(Reply::Advanced(2, 2)), &[]),
+    (18, ENDS, BLOCKED, &[]),
+    (
+        18,
+        Maker::Process(1, Asked::Caller(CallerCall::StopSelf)),
+        Answer::As(Reply::Gone),
+        &[],
+    ),
+    (18, Maker::Idle(1), Answer::As(Reply::Idle), &[]),
+    (
+        20,
+        Maker::Ticker,
+        Answer::As(Reply::Advanced(2, 2)),
+        &[Effect::Released(0)],
+    ),
+];
 
 /// The text of the report of this log, of at most `room` bytes.
-pub(crate) fn printed<R: Abort>(
-    rt: &R,
-    alloc: Global,
-    table: &Table,
-    log: &Log,
-    room: usize,
-) -> FailAt {
+fn printed<R: Abort>(rt: &R, alloc: Global, table: &Table, log: &Log, room: usize) -> FailAt {
     let limit = log.limit();
     prove!(limit <= MOST_ENTRIES);
     let report = report_of(alloc, table, log.entries()).expect(rt, "memory");
@@ -206,16 +135,24 @@ pub(crate) fn printed<R: Abort>(
     paper
 }
 
+/// The text of the report of the history of these rows, of the table of this text.
+pub(crate) fn report_on_rows<R: Abort>(
+    rt: &R,
+    alloc: Global,
+    text: &str,
+    rows: &[Row],
+    room: usize,
+) -> FailAt {
+    let table = read_table(alloc, text.as_bytes()).expect(rt, "the table is lawful");
+    let log = log_of(rt, alloc, rows);
+    let paper = printed(rt, alloc, &table, &log, room);
+    drop(log);
+    drop(table);
+    paper
+}
+
 #[test]
 fn two_jobs_a_miss_and_a_timeout(rt: HostRuntime) {
-    let table = read_table(rt.alloc(), TABLE.as_bytes()).expect(&rt, "the table is lawful");
-    let mut log = Log::new(rt.alloc(), 16).expect(&rt, "memory");
-    let (control, logger) = (ProcessId::at(0), ProcessId::at(1));
-    let released = [Notice::Released(control), Notice::Released(logger)];
-    let timed_out = [Notice::Woken(logger, ReturnCode::TimedOut)];
-    let missed = [Notice::Missed(control, DeadlineType::Soft)];
-    fill(&mut log, &released[..1], &released, &timed_out, &missed);
-    let paper = printed(&rt, rt.alloc(), &table, &log, REPORT.len());
+    let paper = report_on_rows(&rt, rt.alloc(), TABLE, &HISTORY, REPORT.len());
     assert!(rt; paper.held() == REPORT.as_bytes());
-    drop(table);
 }

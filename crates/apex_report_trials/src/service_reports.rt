@@ -1,15 +1,9 @@
 //! The report of a history that is written by hand: services that refuse calls of the init list and
 //! of two processes, and work that is done and lost.
-ghost use Rattle.std.specs.Prelude.{◌≤◌};
 
-use crate::reports::{called, normal, printed, push_next, ticked};
-use apex_history::Log;
-use apex_table::read_table;
-use apex_types::{
-    Call, Caller, CoreId, LentEntry, Named, Notice, ProcessCall, ProcessId, ProcessService, Reply,
-    ReturnCode, SemaphoreCall, SemaphoreId, SemaphoreService, Span, TimeCall, Who,
-};
-use std::mem::drop;
+use crate::histories::{Answer, Asked, Maker, Row, STARTED};
+use crate::reports::report_on_rows;
+use apex_types::{ProcessService, Reply, ReturnCode, SemaphoreService, TimeCall};
 
 const TABLE: &str = r#"
 cores = 2
@@ -59,95 +53,63 @@ service SIGNAL_SEMAPHORE \
 NO_ACTION=2 NOT_AVAILABLE=0 INVALID_PARAM=0 INVALID_CONFIG=0 INVALID_MODE=0
 ";
 
-fn refused(code: ReturnCode) -> Reply {
-    Reply::Code(code)
-}
+/// What FIRST asks for.
+const SEVEN: Maker = Maker::Process(0, Asked::Work(7));
 
-/// The entry of the init list that asks for the id of the semaphore, which is not created yet.
-fn asked() -> LentEntry<'static> {
-    let call = SemaphoreCall::GetId(Named::Known(SemaphoreId::at(0)));
-    LentEntry {
-        number: 1,
-        now: 0,
-        who: Who::Core(CoreId::new(0)),
-        process: Caller::Init,
-        call: Some(Call::Semaphore(call)),
-        reply: refused(ReturnCode::InvalidConfig),
-        notices: &[],
-    }
-}
+const THREE: Maker = Maker::Process(0, Asked::Work(3));
 
-fn signal() -> Call {
-    let service = SemaphoreService::Signal;
-    Call::Semaphore(SemaphoreCall::KindService(SemaphoreId::at(0), service))
-}
+const SIGNAL: Asked = Asked::Semaphore(SemaphoreService::Signal);
 
-fn of_first(service: ProcessService) -> Call {
-    Call::Process(ProcessCall::KindService(ProcessId::at(0), service))
-}
+const BEGUN: Answer = Answer::As(Reply::Begun);
 
-fn work(units: u32) -> Call
-    requires { 1 ≤ units }
-{
-    Call::Work(Span::of(units))
-}
+const DONE: Answer = Answer::As(Reply::Done);
 
-/// Puts the turns of FIRST into the log.
-fn fill_first(log: &mut Log) {
-    let none: [Notice; 0] = [];
-    push_next(log, &called(0, 0, work(7), Reply::Begun));
-    push_next(log, &ticked(2, 2, &none));
-    push_next(log, &called(2, 0, work(7), Reply::Lost));
-    push_next(log, &called(2, 0, work(7), Reply::Begun));
-    push_next(log, &ticked(9, 7, &none));
-    push_next(log, &called(9, 0, work(7), Reply::Done));
-    push_next(log, &called(9, 0, work(3), Reply::Begun));
-    push_next(log, &ticked(12, 3, &none));
-    push_next(log, &called(12, 0, work(3), Reply::Done));
-    push_next(log, &called(12, 0, signal(), refused(ReturnCode::NoAction)));
-    push_next(
-        log,
-        &called(12, 0, Call::Time(TimeCall::GetTime), Reply::Value(12)),
-    );
-}
+const NO_ACTION: Answer = Answer::As(Reply::Code(ReturnCode::NoAction));
 
-/// Puts the turns of SECOND into the log.
-fn fill_second(log: &mut Log) {
-    push_next(log, &called(12, 1, signal(), refused(ReturnCode::NoAction)));
-    push_next(
-        log,
-        &called(
-            12,
-            1,
-            of_first(ProcessService::SetPriority(65_535)),
-            refused(ReturnCode::InvalidParam),
-        ),
-    );
-    push_next(
-        log,
-        &called(
-            12,
-            1,
-            of_first(ProcessService::Start),
-            refused(ReturnCode::NoAction),
-        ),
-    );
-    push_next(log, &called(12, 1, work(9), Reply::Begun));
-}
+/// The history. Its first entry is that of the init list which asks for the id of the semaphore, which
+/// is not created yet.
+const HISTORY: [Row; 17] = [
+    (
+        0,
+        Maker::Init(Asked::FindSemaphore),
+        Answer::As(Reply::Code(ReturnCode::InvalidConfig)),
+        &[],
+    ),
+    STARTED,
+    (0, SEVEN, BEGUN, &[]),
+    (2, Maker::Ticker, Answer::As(Reply::Advanced(2, 2)), &[]),
+    (2, SEVEN, Answer::As(Reply::Lost), &[]),
+    (2, SEVEN, BEGUN, &[]),
+    (9, Maker::Ticker, Answer::As(Reply::Advanced(7, 7)), &[]),
+    (9, SEVEN, DONE, &[]),
+    (9, THREE, BEGUN, &[]),
+    (12, Maker::Ticker, Answer::As(Reply::Advanced(3, 3)), &[]),
+    (12, THREE, DONE, &[]),
+    (12, Maker::Process(0, SIGNAL), NO_ACTION, &[]),
+    (
+        12,
+        Maker::Process(0, Asked::Time(TimeCall::GetTime)),
+        Answer::As(Reply::Value(12)),
+        &[],
+    ),
+    (12, Maker::Process(1, SIGNAL), NO_ACTION, &[]),
+    (
+        12,
+        Maker::Process(1, Asked::Process(ProcessService::SetPriority(65_535))),
+        Answer::As(Reply::Code(ReturnCode::InvalidParam)),
+        &[],
+    ),
+    (
+        12,
+        Maker::Process(1, Asked::Process(ProcessService::Start)),
+        NO_ACTION,
+        &[],
+    ),
+    (12, Maker::Process(1, Asked::Work(9)), BEGUN, &[]),
+];
 
 #[test]
 fn refused_calls_and_work_of_processes(rt: HostRuntime) {
-    let table = read_table(rt.alloc(), TABLE.as_bytes()).expect(&rt, "the table is lawful");
-    let mut log = Log::new(rt.alloc(), 32).expect(&rt, "memory");
-    let both = [
-        Notice::Released(ProcessId::at(0)),
-        Notice::Released(ProcessId::at(1)),
-    ];
-    push_next(&mut log, &asked());
-    push_next(&mut log, &normal(&both));
-    fill_first(&mut log);
-    fill_second(&mut log);
-    let paper = printed(&rt, rt.alloc(), &table, &log, REPORT.len());
+    let paper = report_on_rows(&rt, rt.alloc(), TABLE, &HISTORY, REPORT.len());
     assert!(rt; paper.held() == REPORT.as_bytes());
-    drop(table);
 }

@@ -1,5 +1,6 @@
 //! The warnings of a table: one of each kind, and of a table without any.
 
+use crate::papers::has_text;
 use apex_table::read_table;
 use apex_warnings::lint;
 use std::alloc::Global;
@@ -181,8 +182,7 @@ fn has_warnings<R: Abort>(rt: &R, alloc: Global, text: &str, expected: &[&str]) 
     let found = lint(alloc, &table).expect(rt, "memory");
     assert!(rt; found.len() == expected.len());
     for (warning, line) in found.iter().zip(expected) {
-        let text = format!(in alloc; "{warning}").expect(rt, "memory");
-        assert!(rt; text.as_str() == *line);
+        assert!(rt; has_text(rt, alloc, warning, *line));
     }
     drop(found);
     drop(table);

@@ -1,6 +1,6 @@
 //! What searches of two tables for a missed hard deadline say, and the words of their facts.
 
-use crate::papers::paper;
+use crate::papers::{joined, paper};
 use crate::searches::{MUTEX, SEMAPHORE, question_of, system_of};
 use apex_answers::answer_of;
 use apex_configs::Table;
@@ -51,17 +51,28 @@ fn printed<R: Abort + Threads + Sync>(rt: &R, alloc: Global, text: &str, room: u
         .print(room, &mut Counted::new(&mut paper))
         .expect(rt, "room for it");
     drop(answer);
+    drop(system);
     paper
+}
+
+/// Checks that the search of the table behind this line says so.
+fn says<R: Abort + Threads + Sync>(
+    rt: &R,
+    alloc: Global,
+    (head, table): (&str, &str),
+    room: u32,
+    wanted: &str,
+) {
+    let text = joined(rt, alloc, head, table);
+    let paper = printed(rt, alloc, text.as_str(), room);
+    drop(text);
+    assert!(rt; paper.held() == wanted.as_bytes());
 }
 
 #[test]
 fn an_answer_is_printed(rt: HostRuntime) {
-    let alloc = rt.alloc();
-    for (head, table, room, says) in ANSWERS {
-        let mut text = String::from_str(alloc, head).expect(&rt, "memory");
-        text.push_str(table).expect(&rt, "memory");
-        let paper = printed(&rt, alloc, text.as_str(), room);
-        assert!(&rt; paper.held() == says.as_bytes());
+    for (head, table, room, wanted) in ANSWERS {
+        says(&rt, rt.alloc(), (head, table), room, wanted);
     }
 }
 

@@ -7,6 +7,7 @@ use apex_explore::{Answer, NoWatch, System, Taken};
 use apex_jobs::Jobs;
 use std::alloc::{AllocError, Global};
 use std::marker::Sync;
+use std::mem::drop;
 use std::process::Abort;
 use std::thread::Threads;
 
@@ -83,17 +84,29 @@ impl System for Counters {
     }
 }
 
-/// The answer of a search by this many jobs.
+/// The answer of a search by this many jobs, of counters that count to 30.
 fn answer_by<R: Abort + Threads + Sync>(
     rt: &R,
     alloc: Global,
-    counters: Counters,
+    wanted: bool,
     room: u32,
     jobs: u32,
 ) -> Answer {
+    let counters = Counters { most: 30, wanted };
     Jobs::new(rt, jobs)
         .explore(alloc, &counters, room, &mut NoWatch)
         .expect(rt, "memory")
+}
+
+/// The path that counts the first counter up, then the second one, then the third one.
+fn path_of<R: Abort>(rt: &R, alloc: Global) -> Vec<u32> {
+    let mut path = Vec::new(alloc);
+    for choice in 0..3 {
+        for _ in 0..30 {
+            path.push(choice).expect(rt, "memory");
+        }
+    }
+    path
 }
 
 /// Three counters that count to 30 have 31 states each, 29,791 in all, and up to 721 after the same
@@ -101,31 +114,18 @@ fn answer_by<R: Abort + Threads + Sync>(
 /// search finds the one that counts the first counter up, then the second one, then the third one.
 /// With room for 1,000 states it is over after 16 choices: 969 states have a sum of at most 16, and
 /// 1,140 one of at most 17.
+fn are_shared<R: Abort + Threads + Sync>(rt: &R, alloc: Global, jobs: u32) {
+    let closed = Answer::Closed { states: 29_791 };
+    assert!(rt; answer_by(rt, alloc, false, 30_000, jobs) == closed);
+    let found = Answer::Found(path_of(rt, alloc));
+    assert!(rt; answer_by(rt, alloc, true, 30_000, jobs) == found);
+    drop(found);
+    assert!(rt; answer_by(rt, alloc, true, 1000, jobs) == Answer::Full { depth: 16 });
+}
+
 #[test]
 fn threads_share_the_levels(rt: HostRuntime) {
     for jobs in [1, 4] {
-        let alloc = rt.alloc();
-        let closed = Counters {
-            most: 30,
-            wanted: false,
-        };
-        let states = Answer::Closed { states: 29_791 };
-        assert!(&rt; answer_by(&rt, alloc, closed, 30_000, jobs) == states);
-        let wanted = Counters {
-            most: 30,
-            wanted: true,
-        };
-        let mut path = Vec::new(alloc);
-        for choice in 0..3 {
-            for _ in 0..30 {
-                path.push(choice).expect(&rt, "memory");
-            }
-        }
-        assert!(&rt; answer_by(&rt, alloc, wanted, 30_000, jobs) == Answer::Found(path));
-        let full = Counters {
-            most: 30,
-            wanted: true,
-        };
-        assert!(&rt; answer_by(&rt, alloc, full, 1000, jobs) == Answer::Full { depth: 16 });
+        are_shared(&rt, rt.alloc(), jobs);
     }
 }

@@ -2,9 +2,10 @@
 //! that timed out, and responses.
 
 use crate::kernels::ran;
-use crate::searches::{question_of, schedule_of, searched, system_of};
+use crate::searches::{answer_on, question_of, schedule_to};
 use apex_calls::Service;
 use apex_explore::Answer;
+use apex_history::Entries;
 use apex_questions::{Fact, Facts};
 use apex_types::{CoreId, Event, LentEntry, MOST_TICKS, ProcessId, Reply, ReturnCode};
 use std::alloc::Global;
@@ -108,27 +109,30 @@ loop = true
 script = ["work 6", "PERIODIC_WAIT"]
 "#;
 
-/// The number of events of a shortest schedule to the fact, of the process of this number, counted from
-/// 0, and of the service, if these are asked for; 0 if no schedule leads to it.
+/// The number of events of a shortest schedule to one of the facts, of the process of this number,
+/// counted from 0, and of the service, if these are asked for; 0 if no schedule leads to one.
 fn entry_with<R: Abort + Threads + Sync>(
     rt: &R,
     alloc: Global,
     text: &str,
-    fact: Fact,
+    facts: Facts,
     process: Option<u8>,
     service: Option<Service>,
 ) -> usize {
-    let mut question = question_of(Facts::one(fact));
+    let mut question = question_of(facts);
     question.process = process.map(ProcessId::at);
     question.service = service;
-    let system = system_of(rt, alloc, text, question);
-    match searched(rt, alloc, &system) {
-        Answer::Found(path) => path.len(),
-        Answer::Closed { .. } => 0,
-        Answer::Full { .. } => {
-            assert!(rt; false);
-            0
-        }
+    let (entry, is_whole) = length_of(&answer_on(rt, alloc, text, question));
+    assert!(rt; is_whole);
+    entry
+}
+
+/// The number of events of the schedule that the answer has, or 0, and whether no schedule is left out.
+fn length_of(answer: &Answer) -> (usize, bool) {
+    match answer {
+        Answer::Found(path) => (path.len(), true),
+        Answer::Closed { .. } => (0, true),
+        Answer::Full { .. } => (0, false),
     }
 }
 
@@ -142,25 +146,36 @@ fn is_still(entry: &LentEntry<'_>) -> bool {
     }
 }
 
-/// Each process takes one semaphore and waits for the other, until the 18th entry.
-#[test]
-fn two_locks_come_to_a_standstill(rt: HostRuntime) {
-    let alloc = rt.alloc();
-    let system = system_of(&rt, alloc, LOCKS, question_of(Facts::one(Fact::Standstill)));
-    let answer = searched(&rt, alloc, &system);
-    let mut events = schedule_of(&rt, alloc, &system, &answer);
-    assert!(&rt; events.len() == 18);
+/// Whether all entries are those of a standstill.
+fn are_still(entries: Entries<'_>) -> bool {
+    for entry in entries {
+        if !is_still(&entry) {
+            return false;
+        }
+    }
+    true
+}
+
+/// Puts both turns and the tick behind the events.
+fn put_behind<R: Abort>(rt: &R, events: &mut Vec<Event>) {
     let behind = [
         Event::Turn(CoreId::new(0)),
         Event::Turn(CoreId::new(1)),
         Event::Tick(MOST_TICKS),
     ];
-    events.extend_from_slice(&behind).expect(&rt, "memory");
-    let kernel = ran(&rt, alloc, LOCKS, &events);
+    events.extend_from_slice(&behind).expect(rt, "memory");
+}
+
+/// Each process takes one semaphore and waits for the other, until the 18th entry.
+#[test]
+fn two_locks_come_to_a_standstill(rt: HostRuntime) {
+    let mut events = schedule_to(&rt, rt.alloc(), LOCKS, Fact::Standstill);
+    assert!(&rt; events.len() == 18);
+    put_behind(&rt, &mut events);
+    let kernel = ran(&rt, rt.alloc(), LOCKS, events.as_slice());
+    drop(events);
     assert!(&rt; kernel.entries().len() == 21);
-    for entry in kernel.entries() {
-        assert!(&rt; is_still(&entry));
-    }
+    assert!(&rt; are_still(kernel.entries()));
     drop(kernel);
 }
 
@@ -190,7 +205,9 @@ const FACTS: [(Fact, Option<u8>, Option<Service>, usize); 12] = [
 #[test]
 fn facts_are_narrowed(rt: HostRuntime) {
     for (fact, process, service, entry) in FACTS {
-        assert!(&rt; entry_with(&rt, rt.alloc(), WAITERS, fact, process, service) == entry);
+        assert!(&rt;
+            entry_with(&rt, rt.alloc(), WAITERS, Facts::one(fact), process, service) == entry
+        );
     }
 }
 
@@ -211,30 +228,25 @@ const RESPONSES: [(u8, u64, bool); 6] = [
 #[test]
 fn responses_are_found(rt: HostRuntime) {
     for (number, ticks, is_found) in RESPONSES {
-        let fact = Fact::Response(ticks);
-        let entry = entry_with(&rt, rt.alloc(), JOBS, fact, Some(number), None);
+        let facts = Facts::one(Fact::Response(ticks));
+        let entry = entry_with(&rt, rt.alloc(), JOBS, facts, Some(number), None);
         assert!(&rt; (entry > 0) == is_found);
     }
 }
 
-/// The number of the entry of the first of these facts.
-fn first_of<R: Abort + Threads + Sync>(rt: &R, alloc: Global, facts: Facts) -> usize {
-    let system = system_of(rt, alloc, WAITERS, question_of(facts));
-    match searched(rt, alloc, &system) {
-        Answer::Found(path) => path.len(),
-        Answer::Closed { .. } | Answer::Full { .. } => 0,
-    }
+/// What the set of all facts has, and what it has without two of them.
+fn narrow<R: Abort>(rt: &R, all: Facts) -> Facts {
+    assert!(rt; all.contains(REFUSED) && !all.contains(Fact::Response(1)));
+    let others = all.without(REFUSED).without(Fact::TimedOut);
+    assert!(rt; !others.contains(REFUSED) && others.contains(Fact::Ended));
+    assert!(rt; !others.is_empty() && Facts::one(REFUSED).without(REFUSED).is_empty());
+    others
 }
 
 /// A search for one of a set comes to the first fact of all, and without that to the next one.
 #[test]
 fn a_search_finds_the_first_of_a_set(rt: HostRuntime) {
-    let alloc = rt.alloc();
-    let all = Facts::all();
-    assert!(&rt; all.contains(REFUSED) && !all.contains(Fact::Response(1)));
-    let others = all.without(REFUSED).without(Fact::TimedOut);
-    assert!(&rt; !others.contains(REFUSED) && others.contains(Fact::Ended));
-    assert!(&rt; !others.is_empty() && Facts::one(REFUSED).without(REFUSED).is_empty());
-    assert!(&rt; first_of(&rt, alloc, all) == 11);
-    assert!(&rt; first_of(&rt, alloc, others) == 15);
+    let others = narrow(&rt, Facts::all());
+    assert!(&rt; entry_with(&rt, rt.alloc(), WAITERS, Facts::all(), None, None) == 11);
+    assert!(&rt; entry_with(&rt, rt.alloc(), WAITERS, others, None, None) == 15);
 }

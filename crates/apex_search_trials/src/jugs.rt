@@ -82,32 +82,46 @@ impl System for Puzzle {
     }
 }
 
-fn answer_to<R: Abort>(rt: &R, alloc: Global, puzzle: Puzzle, room: u32) -> Answer {
-    explore(alloc, &puzzle, room, &mut NoWatch).expect(rt, "memory")
+/// What a search is to answer.
+enum Wanted {
+    Found(&'static [u32]),
+    Closed(usize),
+    Full(usize),
 }
 
+impl Wanted {
+    fn is_in(&self, answer: &Answer) -> bool {
+        match (self, answer) {
+            (Wanted::Found(wanted), Answer::Found(path)) => path.as_slice() == *wanted,
+            (Wanted::Closed(wanted), Answer::Closed { states }) => states == wanted,
+            (Wanted::Full(wanted), Answer::Full { depth }) => depth == wanted,
+            _ => false,
+        }
+    }
+}
+
+/// How much each jug can hold, what is wanted in one of them, the room for states, and the answer.
+///
 /// With jugs of 3 and 5 it takes six choices to have 4. Jugs of 2 and 6 never hold an odd amount, and
 /// come to eight states. With room for five states the search of the first puzzle ends early.
+static PUZZLES: [(u64, u64, u64, u32, Wanted); 3] = [
+    (3, 5, 4, 1000, Wanted::Found(&[1, 5, 2, 5, 1, 5])),
+    (2, 6, 3, 8, Wanted::Closed(8)),
+    (3, 5, 4, 5, Wanted::Full(1)),
+];
+
+fn answer_to<R: Abort>(rt: &R, alloc: Global, puzzle: &Puzzle, room: u32) -> Answer {
+    explore(alloc, puzzle, room, &mut NoWatch).expect(rt, "memory")
+}
+
 #[test]
 fn jugs_are_poured(rt: HostRuntime) {
-    let alloc = rt.alloc();
-    let three_and_five = Puzzle {
-        small: 3,
-        large: 5,
-        wanted: 4,
-    };
-    let path = vec![in alloc; 1, 5, 2, 5, 1, 5].expect(&rt, "memory");
-    assert!(&rt; answer_to(&rt, alloc, three_and_five, 1000) == Answer::Found(path));
-    let even = Puzzle {
-        small: 2,
-        large: 6,
-        wanted: 3,
-    };
-    assert!(&rt; answer_to(&rt, alloc, even, 8) == Answer::Closed { states: 8 });
-    let again = Puzzle {
-        small: 3,
-        large: 5,
-        wanted: 4,
-    };
-    assert!(&rt; answer_to(&rt, alloc, again, 5) == Answer::Full { depth: 1 });
+    for (small, large, wanted, room, answer) in &PUZZLES {
+        let puzzle = Puzzle {
+            small: *small,
+            large: *large,
+            wanted: *wanted,
+        };
+        assert!(&rt; answer.is_in(&answer_to(&rt, rt.alloc(), &puzzle, *room)));
+    }
 }

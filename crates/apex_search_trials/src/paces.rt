@@ -1,11 +1,16 @@
 //! A run without a schedule: its events are those that the rules of the pace give.
 
 use crate::kernels::booted;
+use apex_dispatch::Kernel;
+use apex_history::Entries;
 use apex_pace::Pace;
+use apex_process::QueueStore;
 use apex_rounds::Rounds;
 use apex_table::read_table;
 use apex_types::{LentEntry, Reply, Who};
+use std::alloc::Global;
 use std::mem::drop;
+use std::process::Abort;
 
 /// A process that works for 3 ticks in each period of 8, and then makes two calls. The default init
 /// list has four steps.
@@ -63,22 +68,33 @@ fn made_of(entry: &LentEntry<'_>) -> Made {
     }
 }
 
-#[test]
-fn a_pace_gives_the_schedule(rt: HostRuntime) {
-    let alloc = rt.alloc();
-    let table = read_table(alloc, TABLE.as_bytes()).expect(&rt, "the table is lawful");
+/// Whether these made the entries.
+fn are_made(entries: Entries<'_>, wanted: &[Made]) -> bool {
+    let mut made = wanted.iter();
+    for entry in entries {
+        if made.next() != Some(&made_of(&entry)) {
+            return false;
+        }
+    }
+    made.next().is_none()
+}
+
+/// The kernel of the table until this time, at two turns a tick.
+fn run_until<R: Abort>(rt: &R, alloc: Global, time: u64) -> Kernel<QueueStore> {
+    let table = read_table(alloc, TABLE.as_bytes()).expect(rt, "the table is lawful");
     let pace = Pace {
         turns: 2,
         percent: 100,
     };
-    let mut rounds = Rounds::new(booted(&rt, alloc, table), pace);
-    assert!(&rt; rounds.run_until(18).is_ok());
-    let kernel = rounds.into_kernel();
+    let mut rounds = Rounds::new(booted(rt, alloc, table), pace);
+    assert!(rt; rounds.run_until(time).is_ok());
+    rounds.into_kernel()
+}
+
+#[test]
+fn a_pace_gives_the_schedule(rt: HostRuntime) {
+    let kernel = run_until(&rt, rt.alloc(), 18);
     assert!(&rt; kernel.now() == 18);
-    let mut made = MADE.iter();
-    for entry in kernel.entries() {
-        assert!(&rt; made.next() == Some(&made_of(&entry)));
-    }
-    assert!(&rt; made.next().is_none());
+    assert!(&rt; are_made(kernel.entries(), &MADE));
     drop(kernel);
 }

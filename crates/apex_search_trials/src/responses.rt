@@ -1,7 +1,7 @@
 //! Searches of tables for the greatest response of a process, and their texts.
 
 use crate::facts::JOBS;
-use crate::papers::paper;
+use crate::papers::{joined, paper};
 use crate::searches::{MUTEX, question_of, system_of};
 use apex_answers::worst_of;
 use apex_explore::NoWatch;
@@ -153,13 +153,23 @@ fn printed<R: Abort + Threads + Sync>(
     paper
 }
 
+/// Checks that the search of the table behind this line says so.
+fn says<R: Abort + Threads + Sync>(
+    rt: &R,
+    alloc: Global,
+    (head, table): (&str, &str),
+    (number, room): (u8, u32),
+    wanted: &str,
+) {
+    let text = joined(rt, alloc, head, table);
+    let paper = printed(rt, alloc, text.as_str(), number, room);
+    drop(text);
+    assert!(rt; paper.held() == wanted.as_bytes());
+}
+
 #[test]
 fn a_greatest_response_is_printed(rt: HostRuntime) {
-    let alloc = rt.alloc();
-    for (head, table, number, room, says) in ANSWERS {
-        let mut text = String::from_str(alloc, head).expect(&rt, "memory");
-        text.push_str(table).expect(&rt, "memory");
-        let paper = printed(&rt, alloc, text.as_str(), number, room);
-        assert!(&rt; paper.held() == says.as_bytes());
+    for (head, table, number, room, wanted) in ANSWERS {
+        says(&rt, rt.alloc(), (head, table), (number, room), wanted);
     }
 }

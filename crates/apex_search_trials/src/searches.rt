@@ -5,6 +5,7 @@ ghost use Rattle.apex_table.specs.Reading.{table_of};
 
 use crate::kernels::ran;
 use apex_explore::{Answer, NoWatch};
+use apex_history::Entries;
 use apex_jobs::Jobs;
 use apex_pace::{Pace, USUAL_TURNS};
 use apex_questions::{Fact, Facts};
@@ -116,8 +117,30 @@ pub(crate) fn question_of(facts: Facts) -> Question {
     }
 }
 
+/// What a search of the system says, by one thread and with room for 1,000 states.
+fn searched<R: Abort + Threads + Sync>(rt: &R, alloc: Global, system: &TableSystem) -> Answer {
+    let jobs = Jobs::new(rt, 1);
+    system
+        .search(alloc, 1000, &jobs, &mut NoWatch)
+        .expect(rt, "memory")
+}
+
+/// What a search of the table of this text says on the question, by one thread and with room for 1,000
+/// states.
+pub(crate) fn answer_on<R: Abort + Threads + Sync>(
+    rt: &R,
+    alloc: Global,
+    text: &str,
+    question: Question,
+) -> Answer {
+    let system = system_of(rt, alloc, text, question);
+    let answer = searched(rt, alloc, &system);
+    drop(system);
+    answer
+}
+
 /// The schedule that leads to the answer, which is empty if there is none.
-pub(crate) fn schedule_of<R: Abort>(
+fn schedule_of<R: Abort>(
     rt: &R,
     alloc: Global,
     system: &TableSystem,
@@ -129,16 +152,20 @@ pub(crate) fn schedule_of<R: Abort>(
     }
 }
 
-/// What a search of the system says, by one thread and with room for 1,000 states.
-pub(crate) fn searched<R: Abort + Threads + Sync>(
+/// The shortest schedule of the table of this text that leads to the fact, which is empty if there is
+/// none.
+pub(crate) fn schedule_to<R: Abort + Threads + Sync>(
     rt: &R,
     alloc: Global,
-    system: &TableSystem,
-) -> Answer {
-    let jobs = Jobs::new(rt, 1);
-    system
-        .search(alloc, 1000, &jobs, &mut NoWatch)
-        .expect(rt, "memory")
+    text: &str,
+    fact: Fact,
+) -> Vec<Event> {
+    let system = system_of(rt, alloc, text, question_of(Facts::one(fact)));
+    let answer = searched(rt, alloc, &system);
+    let events = schedule_of(rt, alloc, &system, &answer);
+    drop(answer);
+    drop(system);
+    events
 }
 
 /// `high`, the second process, misses its deadline in the entry.
@@ -147,20 +174,25 @@ fn is_late(entry: &LentEntry<'_>) -> bool {
     entry.notices.iter().any(|notice| *notice == late)
 }
 
+/// Whether `high` misses its deadline in entry 40, and in no other one.
+fn is_late_once(entries: Entries<'_>) -> bool {
+    for entry in entries {
+        if is_late(&entry) != (entry.number == 40) {
+            return false;
+        }
+    }
+    true
+}
+
 /// The shortest schedule that leads to a missed deadline has 40 events. In a kernel the entry of the
 /// last one, and no other, says that `high` misses it, at time 16.
 #[test]
 fn an_inversion_is_found(rt: HostRuntime) {
-    let alloc = rt.alloc();
-    let question = question_of(Facts::one(Fact::HardMissed));
-    let system = system_of(&rt, alloc, SEMAPHORE, question);
-    let answer = searched(&rt, alloc, &system);
-    let events = schedule_of(&rt, alloc, &system, &answer);
+    let events = schedule_to(&rt, rt.alloc(), SEMAPHORE, Fact::HardMissed);
     assert!(&rt; events.len() == 40);
-    let kernel = ran(&rt, alloc, SEMAPHORE, &events);
-    for entry in kernel.entries() {
-        assert!(&rt; is_late(&entry) == (entry.number == 40));
-    }
+    let kernel = ran(&rt, rt.alloc(), SEMAPHORE, events.as_slice());
+    drop(events);
+    assert!(&rt; is_late_once(kernel.entries()));
     assert!(&rt; kernel.now() == 16);
     drop(kernel);
 }
@@ -173,14 +205,23 @@ fn an_inversion_is_found(rt: HostRuntime) {
 /// steps.
 const NEVER: [(&str, Option<u8>, usize); 2] = [(SEMAPHORE, Some(0), 58), (MUTEX, None, 149)];
 
+/// Checks that a search for a hard deadline that is missed, by the process of this number if it is
+/// asked for, ends with this many states and finds none.
+fn is_never_missed<R: Abort + Threads + Sync>(
+    rt: &R,
+    alloc: Global,
+    text: &str,
+    number: Option<u8>,
+    states: usize,
+) {
+    let mut question = question_of(Facts::one(Fact::HardMissed));
+    question.process = number.map(ProcessId::at);
+    assert!(rt; answer_on(rt, alloc, text, question) == Answer::Closed { states });
+}
+
 #[test]
 fn a_deadline_is_never_missed(rt: HostRuntime) {
-    let alloc = rt.alloc();
     for (text, number, states) in NEVER {
-        let mut question = question_of(Facts::one(Fact::HardMissed));
-        question.process = number.map(ProcessId::at);
-        let system = system_of(&rt, alloc, text, question);
-        let answer = searched(&rt, alloc, &system);
-        assert!(&rt; answer == Answer::Closed { states });
+        is_never_missed(&rt, rt.alloc(), text, number, states);
     }
 }
