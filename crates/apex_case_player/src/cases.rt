@@ -72,18 +72,6 @@ pub struct Case<'a> {
     pub(crate) shortest: usize,
 }
 
-impl Trials {
-    /// Takes the number of the trial of this name; any name but these is that of the changes.
-    fn put(&mut self, name: &str, number: u64) {
-        match name {
-            "reads" => self.reads = Some(number),
-            "writes" => self.writes = Some(number),
-            "cuts" => self.cuts = Some(number),
-            _ => self.changes = Some(number as usize),
-        }
-    }
-}
-
 /// The number that a word of a case writes.
 pub(crate) fn number_of(word: &str) -> Result<u64, CaseFault> {
     match word.parse::<u64>() {
@@ -98,27 +86,6 @@ fn table_for(alloc: Global, kind: Kind<'_>, lines: &str) -> Text {
         Kind::Row => table_of(alloc, lines),
         Kind::Example(table) | Kind::Reading { table, .. } => Text::of(alloc, table),
     }
-}
-
-/// Whether a line with this word gives a number.
-fn is_numbered(field: &str) -> bool {
-    matches!(
-        field,
-        "gives" | "room" | "status" | "reads" | "writes" | "cuts" | "changes"
-    )
-}
-
-/// Appends what a line gives of the text after the table; whether it is such a line.
-fn put_after(after: &mut Text, field: &str, rest: &str) -> bool {
-    let end = match field {
-        "given" => "\n",
-        "return" => "\r\n",
-        "cut" => "",
-        _ => return false,
-    };
-    after.put(rest);
-    after.put(end);
-    true
 }
 
 /// The table with the new text at this place; `Edit` if the text of the place is nowhere in it.
@@ -181,15 +148,10 @@ impl<'a> Case<'a> {
             Kind::Reading { table, at } => self.put_reading(table, at)?,
             _ => self.put_all()?,
         }
-        self.written_whole()
-    }
-
-    /// The first fault of those who wrote the texts of the case.
-    fn written_whole(&self) -> Result<(), CaseFault> {
-        let expected = &self.expected;
-        for text in [&self.table, &self.after, &expected.output, &expected.error] {
-            text.whole()?;
-        }
+        self.table.whole()?;
+        self.after.whole()?;
+        self.expected.output.whole()?;
+        self.expected.error.whole()?;
         Ok(())
     }
 
@@ -200,11 +162,6 @@ impl<'a> Case<'a> {
                 self.put(line)?;
             }
         }
-        self.asked_and_expected()
-    }
-
-    /// A fault if the lines gave no arguments, or no outcome.
-    fn asked_and_expected(&self) -> Result<(), CaseFault> {
         let expected = &self.expected;
         let is_nothing = expected.output.as_str().is_empty() && expected.error.as_str().is_empty();
         if !self.is_asked {
@@ -224,103 +181,68 @@ impl<'a> Case<'a> {
         self.expected.differs = reading.len() < self.lines.len();
         self.devices.room = BRIEF;
         self.ask_over("replay", "0")?;
-        match reading.split_once(':') {
-            Some((fault, new)) => {
-                self.change(table, at, new);
-                self.expect(fault);
+        let Some((fault, new)) = reading.split_once(':') else {
+            self.trials.cuts = Some(1);
+            return if reading == "cuts" {
                 Ok(())
-            }
-            None => self.put_cuts_of(reading),
-        }
-    }
-
-    /// Puts the new text of a reading, behind its space, into the table.
-    fn change(&mut self, table: &str, at: &str, new: &str) {
+            } else {
+                Err(CaseFault::Reading)
+            };
+        };
         self.table = changed(self.alloc, table, at, new.strip_prefix(' ').unwrap_or(new));
-    }
-
-    /// The program refuses the table with this fault, if that is not `none`.
-    fn expect(&mut self, fault: &str) {
         if fault != "none" {
             self.expected.error.put("apex: table refused: ");
             self.expected.error.put_line(fault);
             self.expected.status = 3;
         }
-    }
-
-    /// Takes a reading without a fault, which is `cuts`.
-    fn put_cuts_of(&mut self, reading: &str) -> Result<(), CaseFault> {
-        self.trials.cuts = Some(1);
-        if reading == "cuts" {
-            Ok(())
-        } else {
-            Err(CaseFault::Reading)
-        }
+        Ok(())
     }
 
     fn put(&mut self, line: &'a str) -> Result<(), CaseFault> {
         let (field, rest) = line.split_once(' ').unwrap_or((line, ""));
+        let is_of_row = matches!(self.kind, Kind::Row);
         match field {
             "schedule" => return self.ask_over("replay", rest),
             "differs" if rest.is_empty() => self.expected.differs = true,
-            _ if matches!(self.kind, Kind::Row) => self.put_of_row(field, line),
-            _ => return self.put_of_example(field, rest, line),
+            _ if is_of_row && is_of_table(field) => {}
+            _ if is_of_row => self.expected.output.put_line(line),
+            "edit" => return self.edit(rest),
+            "given" => self.after.put_line(rest),
+            "return" => {
+                self.after.put(rest);
+                self.after.put("\r\n");
+            }
+            "cut" => self.after.put(rest),
+            "listing" => return self.ask_over("status", rest),
+            "arguments" => return self.ask(rest),
+            "argument" => return self.ask_further(rest),
+            _ => return self.put_device(field, rest, line),
         }
         Ok(())
     }
 
-    /// Takes a line of a row's case: one of the expected output, if it is not one of the table.
-    fn put_of_row(&mut self, field: &str, line: &str) {
-        if !is_of_table(field) {
-            self.expected.output.put_line(line);
-        }
-    }
-
-    /// Takes a line of an example's case or of a reading's.
-    fn put_of_example(&mut self, field: &str, rest: &'a str, line: &str) -> Result<(), CaseFault> {
-        if put_after(&mut self.after, field, rest) {
-            return Ok(());
-        }
+    /// Takes a line about the devices, about a further trial, or about the outcome; those about
+    /// parts of the output are read later.
+    fn put_device(&mut self, field: &str, rest: &'a str, line: &str) -> Result<(), CaseFault> {
         match field {
-            "edit" => self.edit(rest),
-            "listing" => self.ask_over("status", rest),
-            "arguments" => self.ask(rest),
-            "argument" => self.ask_further(rest),
-            _ if is_numbered(field) => {
-                self.put_number(field, number_of(rest)?);
-                Ok(())
-            }
-            _ => {
-                self.put_outcome(field, rest, line);
-                Ok(())
-            }
-        }
-    }
-
-    /// Takes the number of a limit of the devices, of the status, or of a further trial.
-    fn put_number(&mut self, field: &str, number: u64) {
-        match field {
-            "gives" => self.devices.gives = number as usize,
-            "room" => self.devices.room = number as usize,
-            "status" => self.expected.status = number,
-            _ => self.trials.put(field, number),
-        }
-    }
-
-    /// Takes a line about a device that fails, or about the outcome; those about parts of the output
-    /// are read later.
-    fn put_outcome(&mut self, field: &str, rest: &'a str, line: &str) {
-        match field {
+            "gives" => self.devices.gives = number_of(rest)? as usize,
+            "room" => self.devices.room = number_of(rest)? as usize,
             "mute" => self.devices.failing_error = 1,
             "unfetched" => {
                 self.is_unfetched = true;
                 self.is_asked = true;
             }
+            "reads" => self.trials.reads = Some(number_of(rest)?),
+            "writes" => self.trials.writes = Some(number_of(rest)?),
+            "cuts" => self.trials.cuts = Some(number_of(rest)?),
+            "changes" => self.trials.changes = Some(number_of(rest)? as usize),
+            "status" => self.expected.status = number_of(rest)?,
             "verdict" => self.expected.verdict = Some(rest),
             "apex:" => self.expected.error.put_line(line),
             "lines" | "contains" => {}
             _ => self.expected.output.put_line(line),
         }
+        Ok(())
     }
 
     /// Does `OLD -> NEW` at each place of the old text; `; ` is a line feed in both. `Edit` if the

@@ -1,5 +1,4 @@
 //! The differences between an outcome and the expected one.
-use crate::attempts::Calls;
 use crate::cases::number_of;
 use crate::faults::CaseFault;
 use crate::reports::Report;
@@ -34,14 +33,6 @@ impl<'a> TextOutcome<'a> {
                 failed_writes: outcome.failed_writes,
             }),
             _ => Err(CaseFault::Text),
-        }
-    }
-
-    /// The number of these calls that failed.
-    pub(crate) fn failed(&self, calls: Calls) -> u64 {
-        match calls {
-            Calls::Reads => self.failed_reads,
-            Calls::Writes => self.failed_writes,
         }
     }
 

@@ -7,7 +7,6 @@ use crate::plans::{Kind, Written};
 use crate::reports::Report;
 use crate::requests::Outcome;
 use crate::rows::cut_line;
-use crate::texts::Text;
 
 impl<'a> Case<'a> {
     /// Judges the outcome of an attempt; the difference is in the report. Whether the lines that
@@ -26,12 +25,17 @@ impl<'a> Case<'a> {
         match attempt {
             Attempt::Whole => self.judge_whole(report, outcome),
             Attempt::Check => self.judge_check(report, outcome),
-            Attempt::Fail(calls, _) => {
-                report.compare_numbers("calls that fail", 1, outcome.failed(calls));
-                self.judge_failure(report, calls, outcome);
+            Attempt::Fail(Calls::Reads, _) => {
+                report.compare_numbers("calls that fail", 1, outcome.failed_reads);
+                compare_refusal(report, outcome, 6, "apex: read failed\n");
             }
+            Attempt::Fail(Calls::Writes, _) => self.judge_failure(report, outcome),
             Attempt::Pass(calls, _) => {
-                report.compare_numbers("calls that fail", 0, outcome.failed(calls));
+                let failed = match calls {
+                    Calls::Reads => outcome.failed_reads,
+                    Calls::Writes => outcome.failed_writes,
+                };
+                report.compare_numbers("calls that fail", 0, failed);
                 self.compare_outcome(report, outcome);
             }
             Attempt::Cut(end) => self.judge_cut(report, end, outcome),
@@ -43,26 +47,19 @@ impl<'a> Case<'a> {
     fn compare_outcome(&mut self, report: &mut Report, outcome: &TextOutcome<'_>) {
         report.compare(self.expected.error.as_str(), outcome.error);
         report.compare_numbers("status", self.expected.status, outcome.status);
-        match self.expected.verdict {
-            Some(verdict) => self.compare_verdict(report, outcome.output, verdict),
-            None => self.compare_output(report, outcome.output),
+        if let Some(verdict) = self.expected.verdict {
+            compare_parts(report, self.lines, outcome.output);
+            self.ask_check(outcome.output);
+            return report.compare(verdict, self.wanted.as_str());
         }
-    }
-
-    /// Compares lines with what is expected of them in part, and asks for their check.
-    fn compare_verdict(&mut self, report: &mut Report, output: &str, verdict: &str) {
-        compare_parts(report, self.lines, output);
-        self.ask_check(output);
-        report.compare(verdict, self.wanted.as_str());
-    }
-
-    /// Compares what the program wrote with the expected output.
-    fn compare_output(&self, report: &mut Report, got: &str) {
         let output = self.expected.output.as_str();
         match self.kind {
-            Kind::Row => report.compare_end(output, got),
+            Kind::Row => report.compare_end(output, outcome.output),
             Kind::Example(_) => {
-                report.compare(output.get(..self.devices.room).unwrap_or(output), got)
+                report.compare(
+                    output.get(..self.devices.room).unwrap_or(output),
+                    outcome.output,
+                )
             }
             Kind::Reading { .. } => {}
         }
@@ -100,31 +97,21 @@ impl<'a> Case<'a> {
         }
     }
 
-    /// Judges the outcome if such a call fails, which fails alone: the program says so, and has
-    /// written nothing if it was a read.
-    fn judge_failure(&mut self, report: &mut Report, calls: Calls, outcome: &TextOutcome<'_>) {
-        match calls {
-            Calls::Reads => compare_refusal(report, outcome, 6, "apex: read failed\n"),
-            Calls::Writes => {
-                report.compare_numbers("status", 6, outcome.status);
-                report.compare("apex: write failed\n", outcome.error);
-                self.judge_part(report, outcome.output);
-            }
-        }
-    }
-
-    /// Judges what the program wrote before a write failed: it is a prefix of the whole output, and
-    /// not all. The lines of a run by threads differ from run to run: the whole ones among those that
-    /// were written are legal, and not all.
-    fn judge_part(&mut self, report: &mut Report, output: &str) {
+    /// Judges the outcome if a write fails: it fails alone, the program says so, and what it wrote
+    /// is a prefix of the whole output, and not all. The lines of a run by threads differ from run
+    /// to run: the whole ones among those that were written are legal, and not all.
+    fn judge_failure(&mut self, report: &mut Report, outcome: &TextOutcome<'_>) {
+        report.compare_numbers("calls that fail", 1, outcome.failed_writes);
+        report.compare_numbers("status", 6, outcome.status);
+        report.compare("apex: write failed\n", outcome.error);
         if self.expected.verdict.is_some() && self.is_for("run") {
-            let lines = whole_lines(output);
+            let lines = whole_lines(outcome.output);
             let is_shorter = lines.lines().count() < self.whole.as_str().lines().count();
             report.require(is_shorter, "the output is shorter than the whole one");
             return self.ask_check(lines);
         }
         let whole = self.whole.as_str();
-        let is_prefix = whole.starts_with(output) && output.len() < whole.len();
+        let is_prefix = whole.starts_with(outcome.output) && outcome.output.len() < whole.len();
         report.require(is_prefix, "the output is a prefix of the whole one");
     }
 
@@ -148,14 +135,23 @@ impl<'a> Case<'a> {
     /// Judges the verdict on a history of which this byte was changed: on standard output if its
     /// line departs, and else on standard error.
     fn judge_change(&mut self, report: &mut Report, change: Change, outcome: &TextOutcome<'_>) {
+        let (_, lines) = cut_line(self.after.as_str());
+        let number = (change.line as u64).saturating_add(1);
+        self.wanted.clear();
         match change.part {
             Part::Core => report.compare("", outcome.error),
             Part::Name => {
-                put_bad_line(&mut self.wanted, change.line);
+                self.wanted.put("apex: history refused: BadLine at line ");
+                self.wanted.put_number(number);
+                self.wanted.put("\n");
                 return compare_refusal(report, outcome, 3, self.wanted.as_str());
             }
             Part::Rest => {
-                put_departure(&mut self.wanted, &self.after, change.line);
+                self.wanted.put("departs at ");
+                self.wanted.put_number(number);
+                self.wanted.put("\nexpected: ");
+                self.wanted
+                    .put_line(lines.lines().nth(change.line).unwrap_or(""));
                 report.compare(self.wanted.as_str(), outcome.output);
             }
         }
@@ -170,21 +166,17 @@ impl<'a> Case<'a> {
             self.compare_cuts(report, wanted);
         }
         if let Some(wanted) = self.trials.changes {
-            self.compare_changes(report, wanted);
+            let (_, lines) = cut_line(self.after.as_str());
+            let got = lines.lines().count().min(wanted);
+            report.compare_numbers("lines", wanted as u64, got as u64);
         }
-        for text in [&self.whole, &self.written, &self.wanted] {
-            if text.whole().is_err() {
-                report.blame(CaseFault::Memory);
-            }
+        if self.whole.whole().is_err()
+            || self.written.whole().is_err()
+            || self.wanted.whole().is_err()
+        {
+            report.blame(CaseFault::Memory);
         }
         report.end_case(written, self.expected.differs);
-    }
-
-    /// Compares the number of lines in which bytes are changed with the expected one.
-    fn compare_changes(&self, report: &mut Report, wanted: usize) {
-        let (_, lines) = cut_line(self.after.as_str());
-        let got = lines.lines().count().min(wanted);
-        report.compare_numbers("lines", wanted as u64, got as u64);
     }
 
     /// Compares the number of cuts that are accepted with the expected one, and the shortest one of
@@ -197,22 +189,4 @@ impl<'a> Case<'a> {
         }
         report.compare_numbers("cuts that are accepted", wanted, self.accepted);
     }
-}
-
-/// Writes the fault of a line of this place, counted from 0, that names no event.
-fn put_bad_line(wanted: &mut Text, place: usize) {
-    wanted.clear();
-    wanted.put("apex: history refused: BadLine at line ");
-    wanted.put_number((place as u64).saturating_add(1));
-    wanted.put("\n");
-}
-
-/// Writes the verdict on a text behind a table whose line of this place, counted from 0, departs.
-fn put_departure(wanted: &mut Text, text: &Text, place: usize) {
-    let (_, lines) = cut_line(text.as_str());
-    wanted.clear();
-    wanted.put("departs at ");
-    wanted.put_number((place as u64).saturating_add(1));
-    wanted.put("\nexpected: ");
-    wanted.put_line(lines.lines().nth(place).unwrap_or(""));
 }
