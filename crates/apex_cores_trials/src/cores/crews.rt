@@ -188,33 +188,6 @@ fn run_workers<P: Naming + Send + Sync, R: Abort + Threads + Wait + Sync>(
     )
 }
 
-/// Whether the ticker made all its ticks and the reader, if there is one, saw nothing go back, and the
-/// reports of the cores.
-fn run_crew<P: Naming + Send + Sync, R: Abort + Threads + Wait + Sync>(
-    rt: &R,
-    crew: &Crew,
-    open: &mut Open<P>,
-    seats: Vec<Seat<P>>,
-) -> (bool, Vec<CoreReport<P>>) {
-    let shared = &open.shared;
-    let reader = &mut open.reader;
-    let ticker = &mut open.ticker;
-    let (is_in_order, (has_ticked, reports)) = thread::join(
-        rt,
-        move || reads_in_order(rt, crew, reader),
-        move || run_workers(rt, shared, crew, seats, ticker),
-    );
-    (has_ticked && is_in_order, reports)
-}
-
-/// Puts the seats of the cores back, each of which made all turns of the second half.
-fn put_all_back<P: Naming, R: Abort>(rt: &R, open: &mut Open<P>, reports: Vec<CoreReport<P>>) {
-    for report in reports {
-        let made = put_back(rt, open, report);
-        assert!(rt; made == (TURNS / 2, false));
-    }
-}
-
 /// Whether all cores and the ticker make their events, each in a thread of its own that has seen
 /// all others begin, and the reader, if there is one, sees neither the entries nor the time go
 /// back, and in the middle all entries of the first half.
@@ -225,8 +198,19 @@ pub fn is_weathered<P: Naming + Send + Sync, R: Abort + Threads + Wait + Sync>(
     pauses: u32,
 ) -> bool {
     let seats = mem::replace(&mut open.seats, Vec::new(alloc));
-    let crew = Crew::new(pauses, seats.len() as u64 + 1, open.reader.is_some());
-    let (has_run, reports) = run_crew(rt, &crew, open, seats);
-    put_all_back(rt, open, reports);
-    has_run && crew.is_whole()
+    let all = Crew::new(pauses, seats.len() as u64 + 1, open.reader.is_some());
+    let crew = &all;
+    let shared = &open.shared;
+    let reader = &mut open.reader;
+    let ticker = &mut open.ticker;
+    let (is_in_order, (has_ticked, reports)) = thread::join(
+        rt,
+        move || reads_in_order(rt, crew, reader),
+        move || run_workers(rt, shared, crew, seats, ticker),
+    );
+    for report in reports {
+        let made = put_back(rt, open, report);
+        assert!(rt; made == (TURNS / 2, false));
+    }
+    has_ticked && is_in_order && all.is_whole()
 }
