@@ -21,24 +21,20 @@ kept a m k cells more within few =
     ∙ ap (λ l. take a cells ++ l) (take-append-le m more rest few)
 
 -- two copies, of the first n bytes and of those from place i on, which overlap
-pub both_kept : (a n i j k : ℕ) (cells more front back : List ℕ) → front ≡ take n more → back ≡ drop i more
-    → n ≤ length more → i ≤ n → j ≡ n → a + length more ≤ length cells
-    → take (a + length more) (put_mid (a + i) k (put_mid a j cells front) back) ≡ take a cells ++ more
-both_kept a n i j k cells more front back starts ends few overlap whole fits =
-    let first = put_mid a j cells front in
-    let rest = post_of a j cells in
-    let short : length front ≡ n = ap (λ l. length l) starts ∙ length-take-le n more few in
-    let tail : length back ≡ length more - i = ap (λ l. length l) ends ∙ length-drop i more in
-    let left : length (take a cells) ≡ a = length-take-le a cells (omega (arith, fits)) in
-    let under : length rest ≡ length cells - a - j = length-drop j (drop a cells) ∙ ap (λ n. n - j) (length-drop a cells) in
-    let same : length first ≡ length cells =
-    omega (arith, length-append (take a cells) (front ++ rest), length-append front rest, short, left, under, whole, few, fits) in
+pub both_kept : (a n i : ℕ) (cells first second more : List ℕ) → a ≤ length cells → n ≤ length more → i ≤ n → i + n ≡ length more
+    → take (a + n) first ≡ take a cells ++ take n more
+    → take (a + i + n) second ≡ take (a + i) first ++ take n (drop i more)
+    → take (a + length more) second ≡ take a cells ++ more
+both_kept a n i cells first second more within few overlap whole front back =
+    let left : length (take a cells) ≡ a = length-take-le a cells within in
+    let some : length (take n more) ≡ n = length-take-le n more few in
     let start : take (a + i) first ≡ take a cells ++ take i more =
-    kept a i j cells front (omega (arith, fits)) (omega (arith, short, overlap))
-    ∙ ap (λ l. take a cells ++ take i l) starts ∙ ap (λ l. take a cells ++ l) (take-take i n more overlap) in
-    let sum : a + length more ≡ a + i + length back = omega (arith, tail, few, overlap) in
-    ap (λ n. take n (put_mid (a + i) k first back)) sum
-    ∙ kept (a + i) (length back) k first back (omega (arith, same, fits, few, overlap)) (omega arith)
-    ∙ ap (λ l. take (a + i) first ++ l) (take_all (length back) back (omega arith))
-    ∙ ap (λ l. l ++ back) start ∙ ap (λ l. take a cells ++ take i more ++ l) ends
-    ∙ append_assoc (take a cells) (take i more) (drop i more) ∙ ap (λ l. take a cells ++ l) (take-append-drop i more)
+    sym (take-take (a + i) (a + n) first (omega (arith, overlap))) ∙ ap (take (a + i)) front
+    ∙ behind (take a cells) (take n more) a i left (omega (arith, some, overlap))
+    ∙ ap (λ l. take a cells ++ l) (take-take i n more overlap) in
+    let rest : take n (drop i more) ≡ drop i more = take_all n (drop i more) (omega (arith, length-drop i more, whole)) in
+    let sum : a + length more ≡ a + i + n = omega (arith, whole) in
+    ap (λ m. take m second) sum ∙ back ∙ ap (λ l. l ++ take n (drop i more)) start
+    ∙ ap (λ l. (take a cells ++ take i more) ++ l) rest
+    ∙ append_assoc (take a cells) (take i more) (drop i more)
+    ∙ ap (λ l. take a cells ++ l) (take-append-drop i more)

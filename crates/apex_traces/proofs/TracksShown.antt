@@ -1,6 +1,6 @@
 -- What a trace shows of a moment gives the text of the moment.
 use Rattle.std.proofs.Common.{◌≡◌, ◌∙◌, ℕ, zero, suc, ◌<◌, true, List, [], ◌∷◌, ◌++◌, Option, None, Some, refl, sym, ap, append-nil, append_assoc}
-use Rattle.std.proofs.lemmas.Bool.{eq-eqb}
+use Rattle.std.proofs.lemmas.Bool.{eq-eqb, eqb-true}
 use Rattle.std.proofs.lemmas.List.{map-append}
 use Rattle.std.specs.Prelude.{Bool, map, flat_map, length, slice_get, slice_index_or, codes, if◌then◌else◌}
 use Rattle.apex_machine.specs.text.Listing.{texts_of}
@@ -198,6 +198,13 @@ pub foot_same : (table : Table) (time : ℕ) (last : Shown)
     → trace.foot_text table time (bare last) ≡ trace.foot_text table time last
 foot_same table time last =
     ap (λ l. l ++ trace.mutexes_text table time last.counts.owners [] ++ codes "\n]}\n") (changes_same table time last none_shown)
+
+-- two processes that are the same
+pub same_found : (before after : Option ℕ) → trace.same_process before after ≡ true → before ≡ after
+same_found None None is = refl
+same_found None (Some q) is = cc
+same_found (Some p) None is = cc
+same_found (Some p) (Some q) is = ap Some (eqb-true p q is)
 
 -- the track of a process that its core runs
 pub track_running : (roster : Roster) (core p : ℕ) (running : Option ℕ) → running ≡ chosen roster core

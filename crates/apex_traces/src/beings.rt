@@ -8,7 +8,7 @@ ghost use Rattle.apex_traces.specs.declared.beings.Being.TheVariants as beings;
 ghost use Rattle.apex_traces.specs.declared.pieces.TheConstants.{PIECE_ROOM};
 
 use crate::escapes::add_escaped;
-use crate::pieces::{Piece, add, add_text};
+use crate::pieces::{Piece, add_text};
 use apex_configs::Table;
 use apex_json::MOST_ESCAPE;
 use apex_machine::Wait;
@@ -173,14 +173,14 @@ pub(crate) fn is_same_being(before: &Being, after: &Being) -> bool
 /// Adds these words and the name of an object behind them.
 #[inline(always)]
 #[tactic(auto, using(std::proofs::Common::append_assoc))]
-fn add_named(piece: &mut Piece, front: &str, name: &[u8])
-    requires front { length front.now ≤ FRONT }
+fn add_named<const N: usize>(piece: &mut Piece, front: [u8; N], name: &[u8])
+    requires front { N ≤ FRONT }
     requires name { length name.now ≤ MOST_NAME }
     requires room { array_vec_len piece.old + BEING_ROOM ≤ PIECE_ROOM }
-    ensures text { piece.new.items ≡ piece.old.items ++ named_text front.now name.now }
+    ensures text { piece.new.items ≡ piece.old.items ++ named_text front.entry name.now }
     ensures short { array_vec_len piece.new ≤ array_vec_len piece.old + BEING_ROOM }
 {
-    add(piece, front);
+    add_text(piece, front);
     add_escaped(piece, name);
 }
 
@@ -195,24 +195,30 @@ fn add_object_wait(piece: &mut Piece, table: &Table, being: &Being)
         Being::Semaphore(semaphore) => {
             add_named(
                 piece,
-                "WAITING for semaphore ",
+                *b"WAITING for semaphore ",
                 semaphore_name(table, *semaphore),
             )
         }
         Being::Buffer(buffer) => {
-            add_named(piece, "WAITING for buffer ", buffer_name(table, *buffer))
+            add_named(piece, *b"WAITING for buffer ", buffer_name(table, *buffer))
         }
         Being::Blackboard(blackboard) => {
             add_named(
                 piece,
-                "WAITING for blackboard ",
+                *b"WAITING for blackboard ",
                 blackboard_name(table, *blackboard),
             )
         }
         Being::EventFlag(event) => {
-            add_named(piece, "WAITING for event ", event_flag_name(table, *event))
+            add_named(
+                piece,
+                *b"WAITING for event ",
+                event_flag_name(table, *event),
+            )
         }
-        Being::Mutex(mutex) => { add_named(piece, "WAITING for mutex ", mutex_name(table, *mutex)) }
+        Being::Mutex(mutex) => {
+            add_named(piece, *b"WAITING for mutex ", mutex_name(table, *mutex))
+        }
         _ => {}
     }
 }

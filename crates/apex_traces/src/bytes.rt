@@ -1,9 +1,29 @@
 //! Bytes in a buffer of fixed room. A text of known length is copied by a few instructions, and one of
 //! any length by a call.
-ghost use Rattle.std.specs.Prelude.{◌≡◌, ◌+◌, ◌^◌, ◌<◌, ◌≤◌, [], ◌∷◌, ◌++◌, length};
+ghost use Rattle.std.specs.Prelude.{◌≡◌, ◌+◌, ◌^◌, ◌<◌, ◌≤◌, [], ◌∷◌, ◌++◌, length, take};
 ghost use Rattle.arrayvec.specs.ArrayVec.{array_vec_len};
 
 use std::marker::Model;
+use std::simd::Simd;
+
+/// The bytes of a short copy of known length: fewer are copied by a call.
+const SHORT: usize = 4;
+
+/// The bytes of a copy of middle length.
+const MIDDLE: usize = 2 * SHORT;
+
+/// The bytes of a long copy: more than two of them are copied by a call.
+const LONG: usize = 2 * MIDDLE;
+
+/// Puts the first N bytes at a place, by one load and one store. N is a power of two.
+#[inline(always)]
+fn put_front<const N: usize>(cells: &mut [u8], place: usize, bytes: &[u8])
+    requires { (N ≤ length bytes.now) × (place + N ≤ length cells.old) }
+    ensures kept { take (place + N) cells.new ≡ take place cells.old ++ take N bytes.now }
+    ensures len { length cells.new ≡ length cells.old }
+{
+    Simd::<u8, N>::from_slice(bytes).copy_to_slice(&mut cells[place..]);
+}
 
 /// Bytes in a buffer of fixed room.
 #[derive(Drop)]
@@ -84,8 +104,8 @@ impl<const ROOM: usize> Bytes<ROOM> {
     {
         let (place, last) = (self.count as usize, more.len() - N);
         let cells = &mut self.cells[..];
-        cells[place..place + N].copy_from_slice(&more[..N]);
-        cells[place + last..place + more.len()].copy_from_slice(&more[last..]);
+        put_front::<N>(cells, place, more);
+        put_front::<N>(cells, place + last, &more[last..]);
         self.count += more.len() as u32;
     }
 
@@ -98,14 +118,14 @@ impl<const ROOM: usize> Bytes<ROOM> {
         ensures len { array_vec_len self.new ≡ array_vec_len self.old + length more.now }
     {
         let count = more.len();
-        if count < 4 || count > 32 {
+        if count < SHORT || count > 2 * LONG {
             self.extend(more);
-        } else if count <= 8 {
-            self.extend_by_ends::<4>(more);
-        } else if count <= 16 {
-            self.extend_by_ends::<8>(more);
+        } else if count <= 2 * SHORT {
+            self.extend_by_ends::<SHORT>(more);
+        } else if count <= 2 * MIDDLE {
+            self.extend_by_ends::<MIDDLE>(more);
         } else {
-            self.extend_by_ends::<16>(more);
+            self.extend_by_ends::<LONG>(more);
         }
     }
 
@@ -119,8 +139,10 @@ impl<const ROOM: usize> Bytes<ROOM> {
         ensures short { array_vec_len self.new ≤ array_vec_len self.old + N }
     {
         let place = self.count as usize;
+        // A copy of its own: so a compiler need not ask whether the two buffers overlap.
+        let copy = more.cells;
         let cells = &mut self.cells[..];
-        cells[place..place + N].copy_from_slice(&more.cells);
+        cells[place..place + N].copy_from_slice(&copy);
         self.count += more.count;
     }
 }

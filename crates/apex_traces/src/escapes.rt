@@ -86,7 +86,9 @@ fn are_plain(bytes: &[u8]) -> bool
         return are_many_plain(bytes);
     }
     if bytes.len() >= HALF_LOAD {
-        return is_half_plain_at(bytes, 0) && is_half_plain_at(bytes, bytes.len() - HALF_LOAD);
+        // Both are looked at, so that there is one test.
+        let first = is_half_plain_at(bytes, 0);
+        return first & is_half_plain_at(bytes, bytes.len() - HALF_LOAD);
     }
     are_few_plain(bytes)
 }

@@ -81,7 +81,9 @@ pub(crate) fn add_digit<const ROOM: usize>(piece: &mut Bytes<ROOM>, digit: u8)
 }
 
 /// The two digits of a number below 100, of which the first one may be a zero.
+// Byte by byte: a compiler puts the bytes of one text into a word first.
 #[inline(always)]
+#[tactic(auto, using(std::proofs::Common::append_assoc))]
 fn add_pair<const ROOM: usize>(piece: &mut Bytes<ROOM>, number: u8)
     requires digits { number < 100 }
     requires room { array_vec_len piece.old + 2 ≤ ROOM }
@@ -89,7 +91,8 @@ fn add_pair<const ROOM: usize>(piece: &mut Bytes<ROOM>, number: u8)
         ++ (48 + number / 10) ∷ (48 + number % 10) ∷ [] }
     ensures len { array_vec_len piece.new ≡ array_vec_len piece.old + 2 }
 {
-    add_text(piece, [b'0' + number / 10, b'0' + number % 10]);
+    piece.push(b'0' + number / 10);
+    piece.push(b'0' + number % 10);
 }
 
 // A number of at most two digits, as most tracks have.

@@ -438,10 +438,12 @@ pub(crate) fn add_runs<S: Store>(
     ensures short { array_vec_len piece.new ≤ array_vec_len piece.old + TRACK * MOST_CORES }
 {
     for place in 0..table.cores() {
-        let core = CoreId::new(place);
-        let (before, after) = (running[usize::from(place)], store.chosen(core));
+        let (core, here) = (CoreId::new(place), usize::from(place));
+        let (before, after) = (running[here], store.chosen(core));
         add_core(piece, table, core, time, stamp, &before, &after);
-        running[usize::from(place)] = after;
+        if !is_same_process(&before, &after) {
+            running[here] = after;
+        }
     }
     // The table has no core from here on.
     for place in table.cores()..CORES as u8 {
@@ -474,10 +476,9 @@ pub(crate) fn add_processes<S: Store>(
 {
     for place in 0..store.process_count() {
         let process = ProcessId::at(place as u8);
-        let fields = store.record(process);
         let before = tracks[place];
-        if !is_still(store, process, fields, running, &before) {
-            let track = track_by(store, process, fields, running);
+        if !is_still(store, process, running, &before) {
+            let track = track_by(store, process, store.record(process), running);
             add_process(piece, table, process, time, stamp, &before, &track);
             tracks[place] = track;
         }

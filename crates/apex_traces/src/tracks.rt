@@ -7,7 +7,7 @@ ghost use Rattle.apex_moments.specs.Counts.{HasCounts, counts_of};
 ghost use Rattle.apex_moments.specs.Moments.{moment_in, moment_of, running_in};
 ghost use Rattle.apex_traces.specs.Trace.{column_text};
 ghost use Rattle.apex_traces.specs.Tracks.{bare, cell_on, track_of};
-ghost use Rattle.apex_traces.specs.declared.beings.Being.TheVariants.{Dormant};
+ghost use Rattle.apex_traces.specs.declared.beings.Being.TheVariants.{Dormant, Ready, Running};
 
 use crate::beings::{Being, being_of, is_awaiting};
 use crate::calls::{Said, Span};
@@ -76,29 +76,71 @@ pub(crate) fn track_by<S: Store>(
     )
 }
 
-/// The track of the process of this record still shows this. It looks at no more of the record than
-/// that takes; if it answers no, the track may show it too.
+/// The process is ready.
+#[inline(always)]
+fn is_ready<S: Store>(store: &S, process: ProcessId, running: &[Option<ProcessId>]) -> bool
+    requires known { process < length (S.roster store.now).records }
+    requires running { running.now ≡ running_in (S.roster store.now) }
+    ensures { IsTrue result → track_of (S.roster store.now) process ≡ Ready }
+{
+    let fields = store.record(process);
+    prove!(u32::from(fields.core.number()) < MOST_CORES);
+    matches!(
+        state_of(process, fields, store.mode(), running),
+        State::Ready
+    )
+}
+
+/// The process is the one that its core runs.
+#[inline(always)]
+fn is_run<S: Store>(store: &S, process: ProcessId, running: &[Option<ProcessId>]) -> bool
+    requires known { process < length (S.roster store.now).records }
+    requires running { running.now ≡ running_in (S.roster store.now) }
+    ensures { IsTrue result → track_of (S.roster store.now) process ≡ Running }
+{
+    let fields = store.record(process);
+    prove!(u32::from(fields.core.number()) < MOST_CORES);
+    is_process(process, running_at(running, fields.core))
+}
+
+/// The process waits, and is shown as this.
+#[inline(always)]
+fn still_waits<S: Store>(store: &S, process: ProcessId, being: &Being) -> bool
+    requires known { process < length (S.roster store.now).records }
+    ensures { IsTrue result → track_of (S.roster store.now) process ≡ being.now }
+{
+    let fields = store.record(process);
+    is_awaiting(being, &fields.wait) && fields.started
+}
+
+/// The track of a process still shows this. It looks at no more of the process's record than that
+/// takes; if it answers no, the track may show it too.
+// Each being has a case of its own, so that what is shown is asked for once.
 #[inline(always)]
 pub(crate) fn is_still<S: Store>(
     store: &S,
     process: ProcessId,
-    fields: &Record,
     running: &[Option<ProcessId>],
     being: &Being,
 ) -> bool
-    requires fields { fields.now ≡ record_at (S.roster store.now) process }
+    requires known { process < length (S.roster store.now).records }
     requires running { running.now ≡ running_in (S.roster store.now) }
     ensures { IsTrue result → track_of (S.roster store.now) process ≡ being.now }
 {
-    prove!(u32::from(fields.core.number()) < MOST_CORES);
     match being {
-        Being::Dormant => !fields.started,
-        Being::Ready => matches!(
-            state_of(process, fields, store.mode(), running),
-            State::Ready
-        ),
-        Being::Running => is_process(process, running_at(running, fields.core)),
-        _ => is_awaiting(being, &fields.wait) && fields.started,
+        Being::Dormant => !store.record(process).started,
+        Being::Ready => is_ready(store, process, running),
+        Being::Running => is_run(store, process, running),
+        Being::Waiting => false,
+        Being::Normal => still_waits(store, process, &Being::Normal),
+        Being::Start => still_waits(store, process, &Being::Start),
+        Being::Time => still_waits(store, process, &Being::Time),
+        Being::Period => still_waits(store, process, &Being::Period),
+        Being::Semaphore(semaphore) => still_waits(store, process, &Being::Semaphore(*semaphore)),
+        Being::Buffer(buffer) => still_waits(store, process, &Being::Buffer(*buffer)),
+        Being::Blackboard(board) => still_waits(store, process, &Being::Blackboard(*board)),
+        Being::EventFlag(event) => still_waits(store, process, &Being::EventFlag(*event)),
+        Being::Mutex(mutex) => still_waits(store, process, &Being::Mutex(*mutex)),
     }
 }
 

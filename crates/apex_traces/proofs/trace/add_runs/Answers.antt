@@ -5,8 +5,10 @@ use Rattle.apex_machine.specs.processes.Running.{chosen}
 use Rattle.apex_types.specs.declared.limits.TheConstants.{MOST_CORES}
 use Rattle.apex_moments.specs.Moments.{running_in, with_running}
 use Rattle.apex_traces.specs.Trace as trace
-use Rattle.apex_moments.proofs.Places.{changed_at, kept_at, place_of, same_at, text_next}
+use Rattle.apex_moments.proofs.Places.{changed_at, kept_at, place_of, same_at, still_at, text_next}
+use Rattle.apex_traces.proofs.TracksShown.{same_found}
 use Rattle.apex_traces.proofs.trace.add_runs.Goals as goal
+use Rattle.apex_traces.proofs.trace.add_runs.Goals.{then-not-is_same_process, else-not-is_same_process}
 
 pub loop-place-preserved : goal.loop-place-preserved
 loop-place-preserved g c =
@@ -16,23 +18,36 @@ loop-place-preserved g c =
     let old = c.args.running.now in
     let few : place < MOST_CORES = omega (arith, c.loop-place-test.true, c.cores-place-end.ensures.range.1) in
     let kept : place < length old = omega (arith, few, c.requires.many) in
-    let before = c.index-running-from.result in
+    let before = c.index-running-before.result in
+    let is_here : before ≡ slice_index_or c.loop-place.running place before = rw c.from-here.ensures at c.index-running-before.is in
     let was : before ≡ slice_index_or old place None =
-    (rw c.from.ensures at c.index-running-from.is) ∙ kept_at (chosen roster) place old _ before kept at.runs
-    ∙ same_at old place before None kept in
+    is_here ∙ kept_at (chosen roster) place old _ before kept at.runs ∙ same_at old place before None kept in
     let now : c.chosen-after.result ≡ chosen roster place = rw c.new-core.ensures at c.chosen-after.ensures.value in
     let is : c.chosen-after.result ≡ slice_index_or (running_in roster) place None =
     now ∙ sym (place_of (chosen roster) MOST_CORES place None few) in
-    let put : slice_set c.loop-place.running c.from-in-loop-place.result c.chosen-after.result ≡ set c.loop-place.running place c.chosen-after.result =
-    rw c.from-in-loop-place.ensures refl in
-    record {
-      stamp = at.stamp;
-      end = at.end;
-      runs = changed_at (chosen roster) place old _ _ _ kept at.runs put now;
-      text = text_next (trace.core_at c.args.table.now c.args.time (with_running old) (with_running (running_in roster))) place _ _ _ at.text
-          (rw (was, is, c.new-core.ensures) at c.add_core.ensures.text);
-      short = omega (arith, at.short, c.add_core.ensures.short);
-    }
+    let text = text_next (trace.core_at c.args.table.now c.args.time (with_running old) (with_running (running_in roster))) place _ _ _ at.text
+    (rw (was, is, c.new-core.ensures) at c.add_core.ensures.text) in
+    elim c.if-not-is_same_process.branch [
+      | then-not-is_same_process w ↦
+          let put : w.running ≡ set c.loop-place.running place c.chosen-after.result = w.running-is ∙ rw c.from-here.ensures refl in
+          record {
+            stamp = at.stamp;
+            end = at.end;
+            runs = changed_at (chosen roster) place old _ _ _ kept at.runs put now;
+            text = text;
+            short = omega (arith, at.short, c.add_core.ensures.short);
+          }
+      | else-not-is_same_process w ↦
+          let same : before ≡ c.chosen-after.result =
+          same_found before c.chosen-after.result (sym c.is_same_process.ensures ∙ w.if-not-is_same_process.false) in
+          record {
+            stamp = at.stamp;
+            end = at.end;
+            runs = rw w.running-is (still_at (chosen roster) place old _ before kept at.runs (sym is_here ∙ same ∙ now));
+            text = text;
+            short = omega (arith, at.short, c.add_core.ensures.short);
+          }
+    ]
 
 pub loop-place-2-preserved : goal.loop-place-2-preserved
 loop-place-2-preserved g c =
