@@ -18,8 +18,8 @@ loop-place-preserved g c =
     let old = c.args.running.now in
     let few : place < MOST_CORES = omega (arith, c.loop-place-test.true, c.cores-place-end.ensures.range.1) in
     let kept : place < length old = omega (arith, few, c.requires.many) in
-    let before = c.index-running-before.result in
-    let is_here : before ≡ slice_index_or c.loop-place.running place before = rw c.from-here.ensures at c.index-running-before.is in
+    let before = c.index-running-here.result in
+    let is_here : before ≡ slice_index_or c.loop-place.running place before = rw c.from-here.ensures at c.index-running-here.is in
     let was : before ≡ slice_index_or old place None =
     is_here ∙ kept_at (chosen roster) place old _ before kept at.runs ∙ same_at old place before None kept in
     let now : c.chosen-after.result ≡ chosen roster place = rw c.new-core.ensures at c.chosen-after.ensures.value in
@@ -29,7 +29,7 @@ loop-place-preserved g c =
     (rw (was, is, c.new-core.ensures) at c.add_core.ensures.text) in
     elim c.if-not-is_same_process.branch [
       | then-not-is_same_process w ↦
-          let put : w.running ≡ set c.loop-place.running place c.chosen-after.result = w.running-is ∙ rw c.from-here.ensures refl in
+          let put : _ ≡ set c.loop-place.running place c.chosen-after.result = w.running-is ∙ rw c.from-here.ensures refl in
           record {
             stamp = at.stamp;
             end = at.end;
@@ -58,8 +58,8 @@ loop-place-2-preserved g c =
     let few : place < MOST_CORES = omega (arith, c.loop-place-2-test.true) in
     let kept : place < length old = omega (arith, few, c.requires.many) in
     let now : c.chosen.result ≡ chosen roster place = rw c.new.ensures at c.chosen.ensures.value in
-    let put : slice_set c.loop-place-2.running c.from-in-loop-place-2.result c.chosen.result ≡ set c.loop-place-2.running place c.chosen.result =
-    rw c.from-in-loop-place-2.ensures refl in
+    let put : slice_set c.loop-place-2.running c.from.result c.chosen.result ≡ set c.loop-place-2.running place c.chosen.result =
+    rw c.from.ensures refl in
     record {
       below = omega (arith, few);
       runs = changed_at (chosen roster) place old _ _ _ kept at.runs put now;
