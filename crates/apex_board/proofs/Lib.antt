@@ -1,4 +1,5 @@
 pub mod Prefixes
 pub mod Openings
 pub mod Keeps
+pub mod Views
 pub mod Words

@@ -1,4 +1,4 @@
-use Rattle.std.proofs.Common.{◌≡◌, rules, [], ◌∷◌, ◌++◌, List, ap, refl, sym, ◌∙◌, subst}
+use Rattle.std.proofs.Common.{◌≡◌, [], ◌∷◌, ◌++◌, List, ap, arith, refl, sym, ◌∙◌, subst}
 use mathlib.Core.List.{IsPrefix}
 use Rattle.crossbeam_utils.specs.Register.{Turns}
 use Rattle.crossbeam_utils.specs.Seq.{cell_view}
@@ -7,22 +7,34 @@ use Rattle.apex_board.specs.Cells.{Adds, IsKept, known_in, told_in}
 use Rattle.apex_board.specs.declared.law.View.{View}
 use Rattle.apex_board.specs.declared.law.View.TheVariants.{Publishes}
 use Rattle.apex_board.proofs.Keeps.{adds}
+use Rattle.apex_board.proofs.Views.{publishes_known, still_named}
+use Rattle.apex_board.proofs.publishers.publish_as.Given.{Over}
+use Rattle.apex_board.proofs.publishers.publish_as.Goals.{After-swap_as}
 use Rattle.apex_board.proofs.publishers.publish_as.Goals as goal
+
+-- the publisher has published the history with one entry more
+added : (g : Over) (c : After-swap_as g)
+    → cell_view c.swap_as.new.pass ≡ Publishes g.P.Naming.table g.X.Next.history (told_in (cell_view c.publisher.inside.mark))
+added g c = subst (λ (v : View). Adds g.X.Next.history v (cell_view c.swap_as.new.pass)) c.publisher.invariant.2 c.swap_as.ensures.rule
 
 pub swap_as-requires : goal.swap_as-requires
 swap_as-requires g c =
     let mark = c.publisher.inside.mark in
     let next = g.X.Next.history in
-    let same : c.args.publisher.now ≡ known_in (cell_view mark) = search rules in
     let more : IsPrefix (known_in (cell_view mark)) next =
-    (c.args._latest.now ∷ [], sym (c.requires.named ∙ ap (λ (l : List Entry). l ++ c.args._latest.now ∷ []) same)) in
+    (c.args._latest.now ∷ [], sym (c.requires.named ∙ ap (λ (l : List Entry). l ++ c.args._latest.now ∷ []) (sym c.publisher.view_is))) in
     let rule = subst (λ (v : View). Turns IsKept mark.id v (λ _. c.args.words) (λ before found words after. Adds next before after)) (sym c.publisher.invariant.2)
     (adds g.P.Naming.table (known_in (cell_view mark)) (told_in (cell_view mark)) next next c.args.words mark.id more refl c.requires.shows) in
-    (search rules, (search rules, (search rules, rule)))
+    (omega arith, (omega arith, (c.publisher.invariant.1 ∙ (λ i. ((sym c.deref.ensures) i).table.shared.table_id), rule)))
+
+pub invariant_of-publisher : goal.invariant_of-publisher
+invariant_of-publisher g c =
+    let same = c.swap_as.ensures.cell.0 in (
+      still_named _ _ _ c.publisher.invariant.0 same,
+      same ∙ c.publisher.invariant.1,
+      publishes_known g.P.Naming.table g.X.Next.history (told_in (cell_view c.publisher.inside.mark)) _
+          (added g (goal.at.invariant_of-publisher g c).After-swap_as),
+    )
 
 pub returns : goal.returns
-returns g c =
-    let after = cell_view c.swap_as.new.pass in
-    let added : after ≡ Publishes g.P.Naming.table g.X.Next.history (told_in (cell_view c.publisher.inside.mark)) =
-    subst (λ (v : View). Adds g.X.Next.history v after) c.publisher.invariant.2 c.swap_as.ensures.rule in
-    ap known_in added ∙ c.requires.named
+returns g c = ap known_in (added g (goal.at.returns g c).After-swap_as) ∙ c.requires.named

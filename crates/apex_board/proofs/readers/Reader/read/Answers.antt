@@ -1,4 +1,5 @@
-use Rattle.std.proofs.Common.{◌≡◌, List, rules, ap, sym, ◌∙◌, subst}
+use Rattle.std.proofs.Common.{◌≡◌, List, ap, arith, sym, ◌∙◌, subst}
+use mathlib.Core.List.{IsPrefix}
 use Rattle.crossbeam_utils.specs.Register.{Turns}
 use Rattle.crossbeam_utils.specs.Seq.{cell_view}
 use Rattle.apex_types.specs.declared.entries.Entry.{Entry}
@@ -6,6 +7,7 @@ use Rattle.apex_board.specs.Cells.{HasSeen, IsKept, Sees, known_in}
 use Rattle.apex_board.specs.Fronts.{Front as FrontValue, IsFrontAfter}
 use Rattle.apex_board.specs.declared.law.View.{View}
 use Rattle.apex_board.proofs.Keeps.{reads}
+use Rattle.apex_board.proofs.Views.{reads_known, still_named}
 use Rattle.apex_board.proofs.Words.{front_cores}
 use Rattle.apex_board.proofs.readers.Reader.read.Given.{Over}
 use Rattle.apex_board.proofs.readers.Reader.read.Goals.{After-load_as-words}
@@ -21,12 +23,28 @@ load_as-words-requires g c =
     let mark = c.self.inside.mark in
     let rule = subst (λ (v : View). Turns IsKept mark.id v (λ words. words) (λ before words same after. Sees before words after)) (sym c.self.invariant.2)
     (reads g.P.Naming.table (known_in (cell_view mark)) mark.id) in
-    (search rules, (search rules, (search rules, rule)))
+    (omega arith, (omega arith, (c.self.invariant.1 ∙ (λ i. ((sym c.deref.ensures) i).table.shared.table_id), rule)))
 
 pub from_words-requires : goal.from_words-requires
 from_words-requires g c =
     let shows = (seen g (goal.at.from_words-requires g c).After-load_as-words).shows in
     (shows.front, shows.written, shows.fits, front_cores _ _ shows.front shows.after ∙ sym c.self.invariant.3)
+
+pub invariant_of-self : goal.invariant_of-self
+invariant_of-self g c =
+    let saw = seen g (goal.at.invariant_of-self g c).After-load_as-words in
+    let same = c.load_as-words.ensures.cell.0 in (
+      still_named _ _ _ c.self.invariant.0 same,
+      same ∙ c.self.invariant.1,
+      reads_known g.P.Naming.table saw.history _ saw.view,
+      c.self.invariant.3,
+    )
+
+pub returns-clause-later : goal.returns-clause-later
+returns-clause-later g c =
+    let saw = seen g (goal.at.returns-clause-later g c).After-load_as-words in
+    subst (λ (l : List Entry). IsPrefix l (known_in (cell_view c.load_as-words.new.pass))) c.self.view_is
+    (subst (λ (l : List Entry). IsPrefix (known_in (cell_view c.self.inside.mark)) l) (sym (ap known_in saw.view)) saw.later)
 
 pub returns-clause-front : goal.returns-clause-front
 returns-clause-front g c =
