@@ -10,20 +10,20 @@ pub returns-then-not-enter : goal.returns-then-not-enter
 returns-then-not-enter c =
     let place = c.loop-place.place in
     let short : place < length c.args.pairs.now = omega (arith, c.requires.count, c.len-place-end.ensures.len) in
-    let find = root_found c.args.pairs.now c.args.finds.now place c.origin.result short c.origin.ensures in
+    let find = root_found c.args.pairs.now c.args.origins.now place c.origin.result short c.origin.ensures in
     let kept = rw c.if-not-enter.true at c.enter.ensures in
-    IsKeeping-full (roots_found c.args.pairs.now c.args.finds.now) c.args.roots.now c.loop-place.roots place (get_or c.args.pairs.now place 0 ∷ []) c.origin.result find c.loop-place.invariant c.enter.new.self kept
+    IsKeeping-full (roots_found c.args.pairs.now c.args.origins.now) c.args.roots.now c.loop-place.roots place (get_or c.args.pairs.now place 0 ∷ []) c.origin.result find c.loop-place.invariant c.enter.new.self kept
 
 pub loop-place-preserved : goal.loop-place-preserved
 loop-place-preserved c =
     let place = c.loop-place.place in
     let short : place < length c.args.pairs.now = omega (arith, c.requires.count, c.len-place-end.ensures.len) in
-    let find = root_found c.args.pairs.now c.args.finds.now place c.origin.result short c.origin.ensures in
+    let find = root_found c.args.pairs.now c.args.origins.now place c.origin.result short c.origin.ensures in
     let kept = rw c.if-not-enter.false at c.enter.ensures in
-    IsKeeping-next (roots_found c.args.pairs.now c.args.finds.now) c.args.roots.now c.loop-place.roots place (get_or c.args.pairs.now place 0 ∷ []) c.origin.result find c.loop-place.invariant c.enter.new.self kept
+    IsKeeping-next (roots_found c.args.pairs.now c.args.origins.now) c.args.roots.now c.loop-place.roots place (get_or c.args.pairs.now place 0 ∷ []) c.origin.result find c.loop-place.invariant c.enter.new.self kept
 
 pub returns : goal.returns
 returns c =
-    let found = roots_found c.args.pairs.now c.args.finds.now in
+    let found = roots_found c.args.pairs.now c.args.origins.now in
     let past : length found.states ≤ c.loop-place.place = omega (arith, length-map c.args.pairs.now (λ n. n ∷ []), c.requires.count, c.len-place-end.ensures.len) in
     IsKeeping-end found c.args.roots.now c.loop-place.roots c.loop-place.place past c.loop-place.invariant

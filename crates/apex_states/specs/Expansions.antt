@@ -1,0 +1,25 @@
+-- What was found in expansions, one after the other.
+use Rattle.std.specs.Prelude.{◌≡◌, ℕ, ◌<◌, List, length, Some, slice_get}
+use Rattle.std.specs.List.{flat_map}
+use Rattle.apex_states.specs.declared.expansions.Expansion.{Expansion}
+use Rattle.apex_states.specs.declared.states.Origin.{Origin}
+use Rattle.apex_states.specs.Finds.{Found}
+use Rattle.apex_states.specs.States.{Reached}
+
+-- the states of the expansion have this many words
+abbrev pub IsWide : ℕ → Expansion → Type 0
+IsWide width expansion = expansion.finds.width ≡ width
+
+-- all states that were found in the expansions, of this many words each
+abbrev pub found_in : ℕ → List Expansion → Found
+found_in width expansions = record {
+  width = width;
+  states = flat_map (λ expansion. expansion.finds.states) expansions;
+  origins = flat_map (λ expansion. expansion.finds.origins) expansions;
+}
+
+-- the states of the expansion have as many words as those that were reached, and come from these
+pub record ComesFrom (reached : Reached) (expansion : Expansion) : Type 0 where
+  pub width : IsWide reached.width expansion
+  pub parents : (place : ℕ) (origin : Origin) → slice_get expansion.finds.origins place ≡ Some origin
+      → origin.parent < length reached.states
