@@ -80,7 +80,8 @@ module _ (step : List ℕ → ℕ → Step (List ℕ)) (is_state : List ℕ → 
   each_kept at k choice below is =
       elim (get_append first.copies.states second.copies.states at k is) [
         | inl before ↦
-            let done : at < first.is.done = omega (arith, first.is.ends, slice_get_within first.copies.states at k before) in
+            let ended : first.is.done ≡ length first.copies.states = first.is.ends in
+            let done : at < first.is.done = omega (arith, ended, slice_get_within first.copies.states at k before) in
             Keeps-widen (step k choice) (IsFront-append found.states other.finds.states) (first.is.finds.whole at k choice done before)
         | inr (rest, e, there) ↦
             Keeps-there other.finds.states both.states (step k choice) (λ place n there. (length found.states + place, get_right found.states other.finds.states place n there))

@@ -10,13 +10,18 @@ use Rattle.apex_states.specs.States.{Reached}
 abbrev pub IsWide : ℕ → Expansion → Type 0
 IsWide width expansion = expansion.finds.width ≡ width
 
--- all states that were found in the expansions, of this many words each
+-- the states that were found in the expansions
+abbrev pub states_of : List Expansion → List (List ℕ)
+states_of expansions = flat_map (λ (expansion : Expansion). expansion.finds.states) expansions
+
+-- the origins of these states
+abbrev pub origins_of : List Expansion → List Origin
+origins_of expansions = flat_map (λ (expansion : Expansion). expansion.finds.origins) expansions
+
+-- all that was found in the expansions, in states of this many words
 abbrev pub found_in : ℕ → List Expansion → Found
-found_in width expansions = record {
-  width = width;
-  states = flat_map (λ expansion. expansion.finds.states) expansions;
-  origins = flat_map (λ expansion. expansion.finds.origins) expansions;
-}
+found_in width expansions =
+    record { width = width; states = states_of expansions; origins = origins_of expansions }
 
 -- the states of the expansion have as many words as those that were reached, and come from these
 pub record ComesFrom (reached : Reached) (expansion : Expansion) : Type 0 where

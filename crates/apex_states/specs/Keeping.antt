@@ -27,7 +27,7 @@ pub record CanNumber (half : Half) (roots : Reached) (found : Found) : Type 0 wh
 -- the half of each state that was found in the expansions can be numbered
 pub record CanNumberAll (half : Half) (roots : Reached) (expansions : List Expansion) : Type 0 where
   pub is_half : IsHalf half
-  pub each : AllAre (λ expansion. CanNumber half roots expansion.finds) expansions
+  pub each : AllAre (λ (expansion : Expansion). CanNumber half roots expansion.finds) expansions
 
 -- the numbers are those of the halves of the states that were found
 pub record AreNumbered (half : Half) (found : Found) (numbers : List ℕ) : Type 0 where

@@ -1,7 +1,7 @@
 //! States that were found are kept: their halves are numbered, by a thread for each side, and then the
 //! pairs of these numbers are entered.
 ghost use Rattle.std.specs.Prelude.{◌≡◌, length, IfOk};
-ghost use Rattle.std.specs.List.{flat_map};
+ghost use Rattle.apex_states.specs.Expansions.{origins_of, states_of};
 ghost use Rattle.apex_states.specs.Finds.{AreKept};
 ghost use Rattle.apex_states.specs.Halves.{IsHalf, StillHas};
 ghost use Rattle.apex_states.specs.Keeping.{roots_found, AreAllNumbered, AreNumbered, ArePaired, CanNumber, CanNumberAll};
@@ -113,11 +113,13 @@ pub(crate) fn pair_all(alloc: Global, lefts: &[u32], rights: &[u32]) -> Result<V
 }
 
 /// The origin of each state that was found in the expansions, in order. Fails only for want of memory.
-pub(crate) fn origins_of(alloc: Global, expansions: &[Expansion]) -> Result<Vec<Origin>, AllocError>
-    ensures origins { IfOk result (λ origins.
-        origins.items ≡ flat_map (λ expansion. expansion.finds.origins) expansions.now) }
-    ensures paired { IfOk result (λ origins. length origins.items
-        ≡ length (flat_map (λ expansion. expansion.finds.states) expansions.now)) }
+pub(crate) fn gather_origins(
+    alloc: Global,
+    expansions: &[Expansion],
+) -> Result<Vec<Origin>, AllocError>
+    ensures origins { IfOk result (λ origins. origins.items ≡ origins_of expansions.now) }
+    ensures paired { IfOk result (λ origins.
+        length origins.items ≡ length (states_of expansions.now)) }
 {
     let mut origins = Vec::new(alloc);
     for place in 0..expansions.len() {

@@ -8,7 +8,7 @@ ghost use Rattle.apex_states.specs.States.{no_states, IsKept};
 
 use crate::expansions::Expansion;
 use crate::halves::{Half, Side};
-use crate::keeping::{enter_all, number_both, origins_of, pair_all};
+use crate::keeping::{enter_all, gather_origins, number_both, pair_all};
 use crate::pairs::Pair;
 use crate::roots::Roots;
 use std::alloc::{AllocError, Global};
@@ -135,7 +135,7 @@ impl States {
         requires each { AllAre (ComesFrom self.old) expansions.now }
         ensures { IfOk result (AreKept (found_in self.old.width expansions.now) self.old self.new) }
     {
-        let origins = origins_of(alloc, expansions)?;
+        let origins = gather_origins(alloc, expansions)?;
         let (left, right) = (&mut self.left, &mut self.right);
         let (lefts, rights) = number_both(rt, alloc, left, right, &self.roots, expansions)?;
         let pairs = pair_all(alloc, lefts.as_slice(), rights.as_slice())?;
