@@ -26,5 +26,6 @@ found_in width expansions =
 -- the states of the expansion have as many words as those that were reached, and come from these
 pub record ComesFrom (reached : Reached) (expansion : Expansion) : Type 0 where
   pub width : IsWide reached.width expansion
-  pub parents : (place : ℕ) (origin : Origin) → slice_get expansion.finds.origins place ≡ Some origin
+  pub parents : (place : ℕ) (origin : Origin)
+      → slice_get expansion.finds.origins place ≡ Some origin
       → origin.parent < length reached.states

@@ -39,7 +39,8 @@ pub record AreNumbered (half : Half) (found : Found) (numbers : List ℕ) : Type
 -- the numbers are those of the halves of the states that were found in the expansions
 abbrev pub AreAllNumbered : Half → List Expansion → List ℕ → Type 0
 AreAllNumbered half expansions numbers =
-    (width : ℕ) → AllAre (IsWide width) expansions → AreNumbered half (found_in width expansions) numbers
+    (width : ℕ) → AllAre (IsWide width) expansions
+    → AreNumbered half (found_in width expansions) numbers
 
 -- each pair has the numbers at its place
 pub record ArePaired (lefts rights pairs : List ℕ) : Type 0 where
