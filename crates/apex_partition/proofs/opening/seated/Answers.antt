@@ -1,5 +1,5 @@
 use Rattle.apex_types.specs.declared.entries.Who.TheVariants.{Core}
-use Rattle.std.proofs.Common.{◌≡◌, ℕ, ◌<◌, ◌++◌, ap, sym, ◌∙◌, arith, rules, length}
+use Rattle.std.proofs.Common.{◌≡◌, ℕ, ◌<◌, [], ◌∷◌, ◌++◌, append_assoc, ap, sym, ◌∙◌, arith, length}
 use Rattle.std.specs.Prelude.{List}
 use Rattle.std.specs.Vec.Iter.{into_iter_items}
 use Rattle.apex_receipts.specs.Receipts.{Spoken}
@@ -13,7 +13,7 @@ next_core : (g : Over) (c : After-len g) → (c.in-Some.voice.who ≡ Core c.len
 next_core g c =
     let there = unspoken_at 0 _ c.loop-voice.seats.items c.in-Some.voice (into_iter_items c.next.new.self)
     (ap (λ (rest : List Spoken). c.loop-voice.seats.items ++ rest) (sym c.in-Some.ensures.steps.0) ∙ c.loop-voice.invariant) in
-    let count : c.len.result ≡ length c.loop-voice.seats.items = search rules in
+    let count : c.len.result ≡ length c.loop-voice.seats.items = c.len.ensures ∙ c.loop-voice.seats.ok.0 in
     (there.0 ∙ ap (λ (core : ℕ). Core core) (omega (arith, count)), omega (arith, there.1, count))
 
 pub overflow_cast-len : goal.overflow_cast-len
@@ -29,3 +29,17 @@ new-requires-clause-who g c =
 pub new-requires-clause-core : goal.new-requires-clause-core
 new-requires-clause-core g c =
     omega (arith, (next_core g (goal.at.new-requires-clause-core g c).After-len).1, c.new-core.ensures)
+
+pub loop-voice-init : goal.loop-voice-init
+loop-voice-init g c =
+    (λ i. c.new-seats.ensures.items i ++ c.into_iter-voice-iterator.ensures.into_iter_gives.0 i) ∙ c.requires.voices
+
+pub loop-voice-preserved : goal.loop-voice-preserved
+loop-voice-preserved g c =
+    let seats = c.loop-voice.seats.items in
+    let rest = into_iter_items c.next.new.self in
+    (λ i. c.in_ok-push.ensures.items i ++ rest)
+    ∙ append_assoc seats (c.new.result ∷ []) rest
+    ∙ (λ i. seats ++ c.new.ensures i ∷ rest)
+    ∙ ap (λ (l : List Spoken). seats ++ l) (sym c.in-Some.ensures.steps.0)
+    ∙ c.loop-voice.invariant
