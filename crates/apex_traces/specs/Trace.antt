@@ -76,15 +76,6 @@ begin_text spot = texts (
     codes ",\n{\"ph\":\"B\",\"pid\":" ∷ decimal spot.group ∷ codes ",\"tid\":" ∷ decimal spot.track
     ∷ codes ",\"ts\":" ∷ time_text spot.time ∷ codes ",\"name\":\"" ∷ [])
 
--- the name of the slice of a process that a core runs
-unfoldable pub run_name_text : Table → ℕ → List ℕ
-run_name_text table p =
-    texts (id_text p ∷ codes " " ∷ json_text (process_name table p) ∷ codes "\"}" ∷ [])
-
--- the slice of a process that a core begins to run
-abbrev pub run_text : Table → Spot → ℕ → List ℕ
-run_text table spot p = begin_text spot ++ run_name_text table p
-
 -- the slice of this name
 abbrev pub slice_text : Spot → List ℕ → List ℕ
 slice_text spot word = begin_text spot ++ word ++ codes "\"}"
@@ -94,15 +85,15 @@ abbrev pub being_text : Table → Spot → Being → List ℕ
 being_text table spot being =
     if is_begun being then slice_text spot (being_name table being) else []
 
--- the slice of the process that a core runs, if it runs one
-abbrev pub run_of : Table → Spot → Option ℕ → List ℕ
-run_of table spot None = []
-run_of table spot (Some p) = run_text table spot p
+-- the number of a process, which is before its name on the track of a core (group 1)
+abbrev pub holder_number : ℕ → ℕ → List ℕ
+holder_number group p = if group == 1 then id_text p ++ codes " " else []
 
--- the slice of a mutex's owner, if it has one
-abbrev pub owned_text : Table → Spot → Option ℕ → List ℕ
-owned_text table spot None = []
-owned_text table spot (Some p) = slice_text spot (json_text (process_name table p))
+-- the slice of the process that holds what a track shows, if one does: a core runs it, or it owns a mutex
+abbrev pub holder_text : Table → Spot → Option ℕ → List ℕ
+holder_text table spot None = []
+holder_text table spot (Some p) =
+    slice_text spot (holder_number spot.group p ++ json_text (process_name table p))
 
 -- the end of a slice, if there is one
 abbrev pub ended : Bool → Spot → List ℕ
@@ -115,17 +106,11 @@ same_process None (Some q) = false
 same_process (Some p) None = false
 same_process (Some p) (Some q) = p == q
 
--- the changes on the track of a core
-abbrev pub core_text : Table → Spot → Option ℕ → Option ℕ → List ℕ
-core_text table spot before after =
+-- the changes on the track of a core or a mutex, by the process that held it before and after
+abbrev pub held_text : Table → Spot → Option ℕ → Option ℕ → List ℕ
+held_text table spot before after =
     if same_process before after then []
-    else ended (is_some before) spot ++ run_of table spot after
-
--- the changes on the track of a mutex, by its owner before and after
-abbrev pub mutex_text : Table → Spot → Option ℕ → Option ℕ → List ℕ
-mutex_text table spot before after =
-    if same_process before after then []
-    else ended (is_some before) spot ++ owned_text table spot after
+    else ended (is_some before) spot ++ holder_text table spot after
 
 -- the changes on the track of a process, by what its slice showed and what it shows
 abbrev pub process_text : Table → Spot → Being → Being → List ℕ
@@ -133,22 +118,26 @@ process_text table spot before after =
     if same_being before after then []
     else ended (is_begun before) spot ++ being_text table spot after
 
+-- a track of a group at this time
+abbrev pub spot_of : ℕ → ℕ → ℕ → Spot
+spot_of group track time = record { group = group; track = track; time = time }
+
 -- the track of a core
 abbrev pub core_spot : ℕ → ℕ → Spot
-core_spot core time = record { group = 1; track = core; time = time }
+core_spot core time = spot_of 1 core time
 
 -- the track of process p
 abbrev pub process_spot : ℕ → ℕ → Spot
-process_spot p time = record { group = 2; track = p + 1; time = time }
+process_spot p time = spot_of 2 (p + 1) time
 
 -- the track of mutex m
 abbrev pub mutex_spot : ℕ → ℕ → Spot
-mutex_spot m time = record { group = 3; track = m + 1; time = time }
+mutex_spot m time = spot_of 3 (m + 1) time
 
 -- the changes on the track of this core
 abbrev pub core_at : Table → ℕ → Shown → Shown → ℕ → List ℕ
 core_at table time before after core =
-    core_text table (core_spot core time)
+    held_text table (core_spot core time)
     (slice_index_or before.running core None) (slice_index_or after.running core None)
 
 -- the cell of process p of a moment
@@ -164,7 +153,7 @@ process_at table time before after p =
 -- the changes on the track of mutex m, by the owners of all mutexes
 abbrev pub mutex_at : Table → ℕ → List (Option ℕ) → List (Option ℕ) → ℕ → List ℕ
 mutex_at table time before after m =
-    mutex_text table (mutex_spot m time)
+    held_text table (mutex_spot m time)
     (slice_index_or before m None) (slice_index_or after m None)
 
 -- the changes on the tracks of all mutexes

@@ -10,6 +10,7 @@ mod calls;
 mod changes;
 mod counters;
 mod escapes;
+mod holders;
 mod mutexes;
 mod names;
 mod pieces;

@@ -1,7 +1,7 @@
 //! A picture as a trace in the Trace Event Format, which is JSON: tracks of the cores, of the
 //! processes and of the mutexes, and counters of the other objects. The calls and the arrows are in
 //! modules of their own. The axis has microseconds, and times are nanoseconds.
-ghost use Rattle.std.specs.Prelude.{◌≡◌, ◌+◌, ◌*◌, ◌≤◌, ◌++◌, [], flat_map, is_some, length, map, OnOk};
+ghost use Rattle.std.specs.Prelude.{◌≡◌, ◌+◌, ◌*◌, ◌≤◌, ◌++◌, [], flat_map, length, map, OnOk};
 ghost use Rattle.arrayvec.specs.ArrayVec.{array_vec_len};
 ghost use Rattle.apex_machine.specs.text.Listing.{texts_of};
 ghost use Rattle.apex_types.specs.declared.limits.TheConstants.{MOST_CORES, MOST_NOTICES, MOST_OBJECTS, MOST_PROCESSES};
@@ -12,7 +12,7 @@ ghost use Rattle.apex_moments.specs.Places.{of_places};
 ghost use Rattle.apex_traces.specs.Stamps.{Stamps};
 ghost use Rattle.apex_traces.specs.Trace as trace;
 ghost use Rattle.apex_traces.specs.declared.pieces.TheConstants.{ARROW, CALL, MARK, PIECE_ROOM, TRACK};
-ghost use Rattle.apex_traces.specs.declared.trace.TheConstants.{BEGIN, END, MARK_DETAIL, MARK_WORD, NAME};
+ghost use Rattle.apex_traces.specs.declared.trace.TheConstants.{BEGIN, END, MARK_DETAIL, MARK_WORD};
 ghost use Rattle.apex_traces.specs.Beings.{is_begun};
 ghost use Rattle.apex_traces.specs.declared.beings.TheConstants.{BEING_ROOM};
 ghost use Rattle.apex_traces.specs.Tracks.{bare, bare_cells, cell_on, track_of};
@@ -21,7 +21,7 @@ use crate::arrows::{add_heads, add_tails};
 use crate::beings::{BEING_ROOM, Being, add_being_name, is_begun, is_same_being};
 use crate::calls::{Said, Span};
 use crate::counters::put_first_counts;
-use crate::escapes::add_escaped;
+use crate::holders::{OF_CORES, add_held, is_same_process};
 use crate::mutexes::{add_mutex_ends, put_mutex_names};
 use crate::pieces::{ARROW, CALL, DIGITS, MARK, Piece, TRACK, add, add_number, add_text};
 use crate::stamps::{FRONT, TIMED, Timed, add_begin_front, add_end_front, add_stamp};
@@ -34,17 +34,17 @@ use apex_moments::{
     running_at,
 };
 use apex_store::Store;
-use apex_types::{CoreId, LentEntry, MOST_NAME, MOST_NOTICES, MutexId, Notice, ProcessId};
+use apex_types::{CoreId, LentEntry, MOST_NAME, MOST_NOTICES, Notice, ProcessId};
 use std::alloc::AllocError;
 
 /// The place of a slice or a mark in a trace: its group, its track and its time.
 #[derive(Clone, Copy)]
 pub(crate) struct Spot {
     /// 1 of the cores, 2 of the processes, 3 of the objects.
-    group: u8,
-    track: u32,
+    pub(crate) group: u8,
+    pub(crate) track: u32,
     /// In nanoseconds.
-    time: u64,
+    pub(crate) time: u64,
 }
 
 /// Puts the name of a core's track, and its place among those of the cores.
@@ -183,42 +183,6 @@ pub(crate) fn add_begin(piece: &mut Piece, spot: Spot, stamp: &Timed)
     add_text(piece, *b",\"name\":\"");
 }
 
-/// Adds the name of the slice of a process that a core runs.
-#[inline(always)]
-#[tactic(auto, using(std::proofs::Common::append_assoc), unfolding(crate::specs::Trace::run_name_text))]
-fn add_run_name(piece: &mut Piece, table: &Table, process: ProcessId)
-    requires { array_vec_len piece.old + NAME ≤ PIECE_ROOM }
-    ensures text { piece.new.items ≡ piece.old.items ++ trace.run_name_text table.now process }
-    ensures short { array_vec_len piece.new ≤ array_vec_len piece.old + NAME }
-{
-    add_number(piece, u64::from(process.number()));
-    add_text(piece, *b" ");
-    add_escaped(piece, name_of(table, process));
-    add_text(piece, *b"\"}");
-}
-
-/// Adds the slice of the process that a core runs, if it runs one.
-#[inline(always)]
-#[tactic(auto, using(std::proofs::Common::append_assoc))]
-fn add_running(
-    piece: &mut Piece,
-    table: &Table,
-    spot: Spot,
-    stamp: &Timed,
-    running: &Option<ProcessId>,
-)
-    requires stamps { Stamps stamp.now spot }
-    requires room { array_vec_len piece.old + BEGIN + NAME ≤ PIECE_ROOM }
-    ensures text { piece.new.items ≡ piece.old.items
-        ++ trace.run_of table.now spot running.now }
-    ensures short { array_vec_len piece.new ≤ array_vec_len piece.old + BEGIN + NAME }
-{
-    if let Some(process) = running {
-        add_begin(piece, spot, stamp);
-        add_run_name(piece, table, *process);
-    }
-}
-
 /// Adds the slice of a process; a dormant one has none.
 #[inline(always)]
 #[tactic(auto, using(std::proofs::Common::append_assoc))]
@@ -247,69 +211,6 @@ pub(crate) fn add_ended(piece: &mut Piece, spot: Spot, stamp: &Timed, begun: boo
     if begun {
         add_end(piece, spot, stamp);
     }
-}
-
-#[inline(always)]
-pub(crate) fn is_same_process(before: &Option<ProcessId>, after: &Option<ProcessId>) -> bool
-    ensures { result ≡ trace.same_process before.now after.now }
-{
-    match before {
-        Some(before) => match after {
-            Some(after) => before == after,
-            None => false,
-        },
-        None => after.is_none(),
-    }
-}
-
-/// Adds the end of the slice on the track of a core, and the beginning of the next one.
-// Not inlined, as on most tracks an entry changes nothing.
-#[inline(never)]
-#[tactic(auto, using(std::proofs::Common::append_assoc))]
-fn add_switch(
-    piece: &mut Piece,
-    table: &Table,
-    core: CoreId,
-    time: u64,
-    stamp: &Timed,
-    before: &Option<ProcessId>,
-    after: &Option<ProcessId>,
-)
-    requires stamp { stamp.now ≡ time }
-    requires room { array_vec_len piece.old + TRACK ≤ PIECE_ROOM }
-    ensures text { piece.new.items ≡ piece.old.items
-        ++ (trace.ended (is_some before.now) (trace.core_spot core time)
-        ++ trace.run_of table.now (trace.core_spot core time) after.now) }
-    ensures short { array_vec_len piece.new ≤ array_vec_len piece.old + TRACK }
-{
-    let spot = core_spot(core, time);
-    add_ended(piece, spot, stamp, before.is_some());
-    add_running(piece, table, spot, stamp, after);
-}
-
-/// Adds the changes on the track of a core.
-#[inline(always)]
-fn add_core(
-    piece: &mut Piece,
-    table: &Table,
-    core: CoreId,
-    time: u64,
-    stamp: &Timed,
-    before: &Option<ProcessId>,
-    after: &Option<ProcessId>,
-)
-    requires stamp { stamp.now ≡ time }
-    requires room { array_vec_len piece.old + TRACK ≤ PIECE_ROOM }
-    ensures text { piece.new.items ≡ piece.old.items ++ trace.core_text table.now
-        (trace.core_spot core time) before.now after.now }
-    ensures short { array_vec_len piece.new ≤ array_vec_len piece.old + TRACK }
-{
-    if is_same_process(before, after) {
-        return;
-    }
-    // Copies, so that only a change takes their place in memory.
-    let (old, new) = (*before, *after);
-    add_switch(piece, table, core, time, stamp, &old, &new);
 }
 
 /// Adds the end of the slice on the track of a process, and the beginning of the next one.
@@ -360,17 +261,6 @@ fn add_process(
     add_change(piece, table, process, time, stamp, before, after);
 }
 
-/// The track of a core.
-fn core_spot(core: CoreId, time: u64) -> Spot
-    ensures { result ≡ trace.core_spot core time }
-{
-    Spot {
-        group: 1,
-        track: u32::from(core.number()),
-        time,
-    }
-}
-
 /// The track of a process.
 fn process_spot(process: ProcessId, time: u64) -> Spot
     ensures { result ≡ trace.process_spot process time }
@@ -378,17 +268,6 @@ fn process_spot(process: ProcessId, time: u64) -> Spot
     Spot {
         group: 2,
         track: process.number(),
-        time,
-    }
-}
-
-/// The track of a mutex.
-pub(crate) fn mutex_spot(mutex: MutexId, time: u64) -> Spot
-    ensures { result ≡ trace.mutex_spot mutex time }
-{
-    Spot {
-        group: 3,
-        track: mutex.number(),
         time,
     }
 }
@@ -413,7 +292,8 @@ fn add_cores(
     for place in 0..table.cores() {
         let core = CoreId::new(place);
         let (old, new) = (running_at(before, core), running_at(after, core));
-        add_core(piece, table, core, time, stamp, &old, &new);
+        let track = u32::from(core.number());
+        add_held::<OF_CORES>(piece, table, track, time, stamp, &old, &new);
     }
 }
 
@@ -440,7 +320,8 @@ pub(crate) fn add_runs<S: Store>(
     for place in 0..table.cores() {
         let (core, here) = (CoreId::new(place), usize::from(place));
         let (before, after) = (running[here], store.chosen(core));
-        add_core(piece, table, core, time, stamp, &before, &after);
+        let track = u32::from(core.number());
+        add_held::<OF_CORES>(piece, table, track, time, stamp, &before, &after);
         if !is_same_process(&before, &after) {
             running[here] = after;
         }

@@ -9,6 +9,6 @@ loop-place-preserved c = record {
   stamp = c.loop-place.invariant.stamp;
   many = c.loop-place.invariant.many;
   text = text_next (trace.mutex_at c.args.table.now c.args.time c.args.last.now []) c.loop-place.place _ _ _ c.loop-place.invariant.text
-      (rw (c.at-mutex.ensures, c.owner_at-before.ensures) at c.add_mutex.ensures.text);
-  short = omega (arith, c.loop-place.invariant.short, c.add_mutex.ensures.short);
+      (rw (c.number.ensures, c.at-mutex.ensures, c.owner_at-before.ensures) at c.add_held.ensures.text);
+  short = omega (arith, c.loop-place.invariant.short, c.add_held.ensures.short);
 }

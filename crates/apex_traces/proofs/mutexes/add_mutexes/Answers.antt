@@ -26,6 +26,6 @@ loop-place-preserved g c =
       end = at.end;
       owners = changed_at (owner roster) place old _ _ _ kept at.owners refl now;
       text = text_next (trace.mutex_at table c.args.time old (owners_in table roster)) place _ _ _ at.text
-          (rw (was, is, c.at-mutex.ensures) at c.add_mutex.ensures.text);
-      short = omega (arith, at.short, c.add_mutex.ensures.short);
+          (rw (was, is, c.number.ensures, c.at-mutex.ensures) at c.add_held.ensures.text);
+      short = omega (arith, at.short, c.add_held.ensures.short);
     }

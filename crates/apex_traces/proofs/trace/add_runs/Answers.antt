@@ -26,7 +26,7 @@ loop-place-preserved g c =
     let is : c.chosen-after.result ≡ slice_index_or (running_in roster) place None =
     now ∙ sym (place_of (chosen roster) MOST_CORES place None few) in
     let text = text_next (trace.core_at c.args.table.now c.args.time (with_running old) (with_running (running_in roster))) place _ _ _ at.text
-    (rw (was, is, c.new-core.ensures) at c.add_core.ensures.text) in
+    (rw (was, is, c.from-track.ensures, c.number.ensures.value, c.new-core.ensures) at c.add_held.ensures.text) in
     elim c.if-not-is_same_process.branch [
       | then-not-is_same_process w ↦
           let put : w.running ≡ set c.loop-place.running place c.chosen-after.result = w.running-is ∙ rw c.from-here.ensures refl in
@@ -35,7 +35,7 @@ loop-place-preserved g c =
             end = at.end;
             runs = changed_at (chosen roster) place old _ _ _ kept at.runs put now;
             text = text;
-            short = omega (arith, at.short, c.add_core.ensures.short);
+            short = omega (arith, at.short, c.add_held.ensures.short);
           }
       | else-not-is_same_process w ↦
           let same : before ≡ c.chosen-after.result =
@@ -45,7 +45,7 @@ loop-place-preserved g c =
             end = at.end;
             runs = rw w.running-is (still_at (chosen roster) place old _ before kept at.runs (sym is_here ∙ same ∙ now));
             text = text;
-            short = omega (arith, at.short, c.add_core.ensures.short);
+            short = omega (arith, at.short, c.add_held.ensures.short);
           }
     ]
 
