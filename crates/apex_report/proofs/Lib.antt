@@ -9,5 +9,6 @@ pub mod UnconcernedObjects
 pub mod Refused
 pub mod ObjectBounds
 pub mod Bounds
+pub mod Joined
 pub mod Printed
 pub mod Unbeaten

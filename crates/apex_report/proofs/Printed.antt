@@ -13,10 +13,6 @@ use Rattle.apex_report.specs.Report.{Report}
 use Rattle.apex_report.specs.Terms.{Entry}
 use Rattle.apex_report.specs.Texts.{IsInTable, IsOfTable}
 
--- three texts that are put one behind the other are put as one
-pub three_joined : (line a b c : List ℕ) → line ++ a ++ b ++ c ≡ line ++ (a ++ b ++ c)
-three_joined line a b c = ap (λ (l : List ℕ). l ++ c) (append_assoc line a b) ∙ append_assoc line (a ++ b) c
-
 -- what is written behind a text is behind it
 pub beginning_behind : (a b c : Option (List ℕ)) (text more : List ℕ) → Appends a b text → AppendsBeginning b c more
     → AppendsBeginning a c (text ++ more)

@@ -136,7 +136,6 @@ fn put_refusals(line: &mut Line, refusals: &Refusals)
     );
 }
 
-#[tactic(auto, using(std::proofs::Common::append_assoc), unfolding(crate::specs::Json::process_members))]
 fn put_process_members(line: &mut Line, figures: &ProcessFigures)
     requires { array_vec_len line.old + 650 ≤ LINE_ROOM }
     ensures text { line.new.items ≡ line.old.items ++ process_members figures.now }
@@ -152,7 +151,6 @@ fn put_process_members(line: &mut Line, figures: &ProcessFigures)
 impl Figures for ProcessFigures {
     ghost json = { process_json };
 
-    #[tactic(auto, using(std::proofs::Common::append_assoc))]
     fn put_json(&self, line: &mut Line, table: &Table) {
         put(line, "{\"process\":");
         put_string(line, process_name(table, self.process));
@@ -197,7 +195,6 @@ fn put_ticks(line: &mut Line, figures: &CoreFigures)
 impl Figures for CoreFigures {
     ghost json = { λ _. core_json };
 
-    #[tactic(auto, using(std::proofs::Common::append_assoc))]
     fn put_json(&self, line: &mut Line, _table: &Table) {
         put(line, "{\"core\":");
         put_number(line, u32::from(self.core.number()));
@@ -211,7 +208,6 @@ impl Figures for CoreFigures {
 impl Figures for ServiceFigures {
     ghost json = { λ _. service_json };
 
-    #[tactic(auto, using(std::proofs::Common::append_assoc))]
     fn put_json(&self, line: &mut Line, _table: &Table) {
         put(line, "{\"service\":\"");
         put(line, row_of(self.service).word);

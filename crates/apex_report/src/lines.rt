@@ -115,7 +115,6 @@ fn put_end(line: &mut Line, job: &Option<Job>)
     }
 }
 
-#[tactic(auto, using(std::proofs::Common::append_assoc))]
 fn put_turns(line: &mut Line, figures: &ProcessFigures)
     requires { array_vec_len line.old + 60 ≤ LINE_ROOM }
     ensures text { line.new.items ≡ line.old.items ++ turns_part figures.now }
@@ -127,7 +126,6 @@ fn put_turns(line: &mut Line, figures: &ProcessFigures)
 }
 
 /// The work of a process or a core.
-#[tactic(auto, using(std::proofs::Common::append_assoc))]
 fn put_work(line: &mut Line, done: u64, lost: u64)
     requires { array_vec_len line.old + 70 ≤ LINE_ROOM }
     ensures text { line.new.items ≡ line.old.items ++ work_part done lost }
@@ -137,7 +135,6 @@ fn put_work(line: &mut Line, done: u64, lost: u64)
     put_long_figure(line, " work_lost=", lost);
 }
 
-#[tactic(auto, using(std::proofs::Common::append_assoc))]
 fn put_jobs(line: &mut Line, jobs: &JobFigures)
     requires { array_vec_len line.old + 60 ≤ LINE_ROOM }
     ensures text { line.new.items ≡ line.old.items ++ jobs_part jobs.now }
@@ -148,7 +145,6 @@ fn put_jobs(line: &mut Line, jobs: &JobFigures)
     put_figure(line, " stops=", jobs.stops);
 }
 
-#[tactic(auto, using(std::proofs::Common::append_assoc))]
 fn put_responses(line: &mut Line, jobs: &JobFigures)
     requires { array_vec_len line.old + 100 ≤ LINE_ROOM }
     ensures text { line.new.items ≡ line.old.items ++ responses_part jobs.now }
@@ -164,7 +160,6 @@ fn put_responses(line: &mut Line, jobs: &JobFigures)
     put_end(line, &jobs.worst);
 }
 
-#[tactic(auto, using(std::proofs::Common::append_assoc))]
 fn put_refusals(line: &mut Line, refusals: &Refusals)
     requires { array_vec_len line.old + 130 ≤ LINE_ROOM }
     ensures text { line.new.items ≡ line.old.items ++ refusals_part refusals.now }
@@ -190,7 +185,6 @@ pub(crate) fn history_line(entries: u32) -> Line
 }
 
 /// The line of a process of the table.
-#[tactic(auto, using(std::proofs::Common::append_assoc))]
 pub(crate) fn process_line(table: &Table, figures: &ProcessFigures) -> Line
     requires { figures.now.process < length table.now.processes }
     ensures { result.items ≡ process_line table.now figures.now }
@@ -208,7 +202,6 @@ pub(crate) fn process_line(table: &Table, figures: &ProcessFigures) -> Line
 }
 
 /// The turns of a core.
-#[tactic(auto, using(std::proofs::Common::append_assoc))]
 fn put_core_turns(line: &mut Line, figures: &CoreFigures)
     requires { array_vec_len line.old + 80 ≤ LINE_ROOM }
     ensures text { line.new.items ≡ line.old.items ++ core_turns_part figures.now }
@@ -221,7 +214,6 @@ fn put_core_turns(line: &mut Line, figures: &CoreFigures)
 }
 
 /// The ticks of a core.
-#[tactic(auto, using(std::proofs::Common::append_assoc))]
 fn put_ticks(line: &mut Line, figures: &CoreFigures)
     requires { array_vec_len line.old + 110 ≤ LINE_ROOM }
     ensures text { line.new.items ≡ line.old.items ++ ticks_part figures.now }
@@ -234,7 +226,6 @@ fn put_ticks(line: &mut Line, figures: &CoreFigures)
 }
 
 /// The line of a core.
-#[tactic(auto, using(std::proofs::Common::append_assoc))]
 pub(crate) fn core_line(figures: &CoreFigures) -> Line
     ensures { result.items ≡ core_line figures.now }
 {
@@ -249,7 +240,6 @@ pub(crate) fn core_line(figures: &CoreFigures) -> Line
 }
 
 /// The line of a service.
-#[tactic(auto, using(std::proofs::Common::append_assoc))]
 fn service_line(figures: &ServiceFigures) -> Line
     ensures { result.items ≡ service_line figures.now }
 {

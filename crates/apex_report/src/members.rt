@@ -19,7 +19,6 @@ pub(crate) struct Member(pub &'static str, pub Option<u64>);
 pub(crate) const MOST_STRING: usize = MOST_ESCAPE * MOST_NAME + 2;
 
 /// Adds a name as a string.
-#[tactic(auto, using(std::proofs::Common::append_assoc))]
 pub(crate) fn put_string(line: &mut Line, name: &[u8])
     requires few { length name.now ≤ MOST_NAME }
     requires room { array_vec_len line.old + MOST_STRING ≤ LINE_ROOM }
@@ -43,7 +42,6 @@ fn put_value(line: &mut Line, value: Option<u64>)
     }
 }
 
-#[tactic(auto, using(std::proofs::Common::append_assoc))]
 fn put_member(line: &mut Line, member: &Member)
     requires { array_vec_len line.old + room_of member.now ≤ LINE_ROOM }
     ensures text { line.new.items ≡ line.old.items ++ member_text member.now }

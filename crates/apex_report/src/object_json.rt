@@ -138,7 +138,6 @@ fn put_longest_members(line: &mut Line, figures: &ObjectFigures)
     );
 }
 
-#[tactic(auto, using(std::proofs::Common::append_assoc))]
 fn put_longest(line: &mut Line, table: &Table, figures: &ObjectFigures)
     requires { array_vec_len line.old + MOST_STRING + 100 ≤ LINE_ROOM }
     ensures text { line.new.items ≡ line.old.items ++ longest_json table.now figures.now }
@@ -164,7 +163,6 @@ fn put_ownership(line: &mut Line, table: &Table, figures: &ObjectFigures)
 impl Figures for ObjectFigures {
     ghost json = { object_json };
 
-    #[tactic(auto, using(std::proofs::Common::append_assoc))]
     fn put_json(&self, line: &mut Line, table: &Table) {
         put(line, "{\"kind\":\"");
         put(line, kind_name(&self.object));

@@ -72,7 +72,6 @@ fn put_level_entry(line: &mut Line, level: &Option<Level>)
     }
 }
 
-#[tactic(auto, using(std::proofs::Common::append_assoc))]
 fn put_greatest(line: &mut Line, figures: &ObjectFigures)
     requires { array_vec_len line.old + 60 ≤ LINE_ROOM }
     ensures text { line.new.items ≡ line.old.items ++ greatest_part figures.now }
@@ -95,7 +94,6 @@ fn put_content(line: &mut Line, figures: &ObjectFigures)
     }
 }
 
-#[tactic(auto, using(std::proofs::Common::append_assoc))]
 fn put_queue(line: &mut Line, figures: &ObjectFigures)
     requires { array_vec_len line.old + 80 ≤ LINE_ROOM }
     ensures text { line.new.items ≡ line.old.items ++ queue_part figures.now }
@@ -145,7 +143,6 @@ fn put_held_end(line: &mut Line, ownership: &Option<Ownership>)
     }
 }
 
-#[tactic(auto, using(std::proofs::Common::append_assoc))]
 fn put_longest(line: &mut Line, table: &Table, figures: &ObjectFigures)
     requires { array_vec_len line.old + 100 ≤ LINE_ROOM }
     ensures text { line.new.items ≡ line.old.items ++ longest_part table.now figures.now }
@@ -172,7 +169,6 @@ fn put_ownership(line: &mut Line, table: &Table, figures: &ObjectFigures)
 }
 
 /// The line of an object of the table.
-#[tactic(auto, using(std::proofs::Common::append_assoc))]
 pub(crate) fn object_line(table: &Table, figures: &ObjectFigures) -> Line
     ensures { result.items ≡ object_line table.now figures.now }
 {

@@ -1,7 +1,6 @@
 -- Lists that are made place by place.
 use Rattle.std.proofs.Common.{◌≡◌, ℕ, zero, suc, ◌+◌, ◌<◌, ◌≤◌, Bool, true, false, List, [], ◌∷◌, ◌++◌, drop, length, map, option_to_list, Option, append_assoc, refl, arith, add-one, ap, ◌||◌, inl, inr}
 use Rattle.std.proofs.lemmas.List.{length-map}
-use Rattle.std.specs.List.{list_any}
 use Rattle.std.proofs.lemmas.Bool.{cases_eq}
 use Rattle.apex_types.specs.declared.limits.TheConstants.{MOST_STEPS}
 use Rattle.apex_warnings.specs.Calls.{calls_of, script}
@@ -55,8 +54,3 @@ script_length table lawful p calls same law within is_script =
     let here : p < length lawful.processes = rw same within in
     let bound : length (process_config table p).script ≤ MOST_STEPS = rw same at (law.processes p here).steps in
     rw (is_script, length-map (process_config table p).script (λ (s : Step). s.call)) bound
-
--- a test of something that is made is one of what it is made of
-pub list_any-map : {X Y : Type 0} (p : X → Bool) (h : Y → X) (ys : List Y) → list_any p (map h ys) ≡ list_any (λ y. p (h y)) ys
-list_any-map p h [] = refl
-list_any-map p h (y ∷ ys) = ap (λ b. p (h y) || b) (list_any-map p h ys)

@@ -59,7 +59,12 @@ impl Act {
     pub fn is_among(&self, calls: &[StepCall]) -> bool
         ensures { result ≡ list_any (does self.now) calls.now }
     {
-        calls.iter().any(|call| self.is_done_by(call.call()))
+        for call in calls {
+            if self.is_done_by(call.call()) {
+                return true;
+            }
+        }
+        false
     }
 }
 
@@ -131,11 +136,11 @@ fn queue_used(call: Call) -> Option<Queue>
     ensures { result ≡ queue_used call }
 {
     match call {
-        Call::Semaphore(call) => used(call).map(Queue::Semaphore),
-        Call::Buffer(call) => used(call).map(Queue::Buffer),
-        Call::Blackboard(call) => used(call).map(Queue::Blackboard),
-        Call::EventFlag(call) => used(call).map(Queue::EventFlag),
-        Call::Mutex(call) => used(call).map(Queue::Mutex),
+        Call::Semaphore(call) => Some(Queue::Semaphore(used(call)?)),
+        Call::Buffer(call) => Some(Queue::Buffer(used(call)?)),
+        Call::Blackboard(call) => Some(Queue::Blackboard(used(call)?)),
+        Call::EventFlag(call) => Some(Queue::EventFlag(used(call)?)),
+        Call::Mutex(call) => Some(Queue::Mutex(used(call)?)),
         _ => None,
     }
 }

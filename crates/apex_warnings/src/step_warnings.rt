@@ -14,7 +14,7 @@ use apex_types::{
 };
 
 /// What a step can hardly be meant to do (this profile).
-#[derive(Clone, Copy, Debug, PartialEq, Eq)]
+#[derive(Clone, Copy)]
 pub enum StepWarning {
     /// Its message is empty, or longer than those of its buffer or blackboard.
     MessageRefused,
@@ -119,7 +119,7 @@ impl StepWarning {
     pub(crate) fn is_about_init(self, table: &Table, call: Call) -> bool
         ensures { result ≡ init_step_warned self table.now call }
     {
-        self == StepWarning::MessageRefused && message_is_refused(table, call)
+        matches!(self, StepWarning::MessageRefused) && message_is_refused(table, call)
     }
 
     /// The warning is about the step at this place of the process's script, with this call.

@@ -80,7 +80,12 @@ impl Script {
 fn one_has(scripts: &[Script], act: &Act) -> bool
     ensures { result ≡ list_any (list_any (does act.now)) scripts.now }
 {
-    scripts.iter().any(|script| script.has(act))
+    for script in scripts {
+        if script.has(act) {
+            return true;
+        }
+    }
+    false
 }
 
 /// A table with the calls of its steps.

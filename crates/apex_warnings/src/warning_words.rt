@@ -75,7 +75,12 @@ static WARNING_WORDS: [&str; 14] = [
 pub fn is_among(word: &str, words: &[&str]) -> bool
     ensures { result ≡ is_among (map (λ w. w.now) words.now) word.now }
 {
-    words.iter().any(|other| word == *other)
+    for other in words {
+        if word == *other {
+            return true;
+        }
+    }
+    false
 }
 
 fn is_warning_word(word: &str) -> bool
@@ -87,7 +92,12 @@ fn is_warning_word(word: &str) -> bool
 fn are_warning_words(words: &[&str]) -> bool
     ensures { result ≡ are_warning_words (map (λ w. w.now) words.now) }
 {
-    words.iter().all(|word| is_warning_word(word))
+    for word in words {
+        if !is_warning_word(word) {
+            return false;
+        }
+    }
+    true
 }
 
 /// The parts between commas, which may be empty.
