@@ -18,17 +18,14 @@ fn why_no_name(alloc: Global, name: &str) -> Result<String, AllocError> {
     if count < 1 || count > MOST_NAME {
         return format!(in alloc; ", and this one has {count}");
     }
-    match name
-        .as_bytes()
-        .iter()
-        .position(|byte| *byte < 0x21 || *byte > 0x7e)
-    {
-        Some(place) => {
-            let number = place.saturating_add(1);
-            format!(in alloc; ", and byte {number} is another one")
+    let mut number: usize = 0;
+    for byte in name.as_bytes() {
+        number = number.saturating_add(1);
+        if *byte < 0x21 || *byte > 0x7e {
+            return format!(in alloc; ", and byte {number} is another one");
         }
-        None => Ok(String::new(alloc)),
     }
+    Ok(String::new(alloc))
 }
 
 /// What is wanted in place of a text that is no name.
@@ -106,6 +103,16 @@ fn arguments_text(alloc: Global, row: &Row) -> Result<String, AllocError> {
     Ok(text)
 }
 
+/// One of the words is empty.
+fn has_empty(words: &[&str]) -> bool {
+    for word in words {
+        if word.is_empty() {
+            return true;
+        }
+    }
+    false
+}
+
 /// What is wanted of the whole step.
 fn step_text(alloc: Global, step: Option<&Value>) -> Result<String, AllocError> {
     let Some(value) = step else {
@@ -114,7 +121,7 @@ fn step_text(alloc: Global, step: Option<&Value>) -> Result<String, AllocError> 
     let given = shown(alloc, value)?;
     let words = words_of(alloc, step)?;
     match row_of_word(word_at(&words, 0)) {
-        Some(_) if words.iter().any(|word| word.is_empty()) => format!(in alloc;
+        Some(_) if has_empty(&words) => format!(in alloc;
             "{given} is given; one space is wanted between two words, and none behind the last one"
         ),
         Some(row) => {

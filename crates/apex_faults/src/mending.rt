@@ -30,7 +30,12 @@ fn plain_part(alloc: Global, subject: Subject) -> Result<Value, AllocError>
 fn is_one_of(keys: &[Key], name: &str) -> bool
     ensures { result ≡ is_one_of keys.now name.now }
 {
-    keys.iter().any(|key| name == key.word())
+    for key in keys {
+        if name == key.word() {
+            return true;
+        }
+    }
+    false
 }
 
 /// The name of the first key that is none of these.

@@ -125,15 +125,14 @@ pub fn changed(
 pub fn place_path(alloc: Global, section: Section, number: u32) -> Result<Vec<PathStep>, AllocError>
     ensures { IfOk result (λ path. path.items ≡ place_path section number) }
 {
-    let mut path = Vec::new(alloc);
+    let entries = PathStep::Key(Key::Entries(section));
     if section == Section::Top {
-        return Ok(path);
+        Ok(Vec::new(alloc))
+    } else if number > 0 {
+        Vec::from_slice(alloc, &[entries, PathStep::Item(number as usize - 1)])
+    } else {
+        Vec::from_slice(alloc, &[entries])
     }
-    path.push(PathStep::Key(Key::Entries(section)))?;
-    if number > 0 {
-        path.push(PathStep::Item(number as usize - 1))?;
-    }
-    Ok(path)
 }
 
 fn step_path(
@@ -144,14 +143,20 @@ fn step_path(
 ) -> Result<Vec<PathStep>, AllocError>
     ensures { IfOk result (λ path. path.items ≡ step_path section number step) }
 {
-    let mut path = Vec::new(alloc);
-    path.push(PathStep::Key(Key::Entries(section)))?;
-    if section != Section::Init {
-        path.push(PathStep::Item((number as usize).saturating_sub(1)))?;
-        path.push(PathStep::Key(Key::Script))?;
+    let entries = PathStep::Key(Key::Entries(section));
+    if section == Section::Init {
+        return Vec::from_slice(alloc, &[entries, PathStep::Item(step)]);
     }
-    path.push(PathStep::Item(step))?;
-    Ok(path)
+    let entry = PathStep::Item((number as usize).saturating_sub(1));
+    Vec::from_slice(
+        alloc,
+        &[
+            entries,
+            entry,
+            PathStep::Key(Key::Script),
+            PathStep::Item(step),
+        ],
+    )
 }
 
 fn key_path(
@@ -162,13 +167,12 @@ fn key_path(
 ) -> Result<Vec<PathStep>, AllocError>
     ensures { IfOk result (λ path. path.items ≡ key_path section number key) }
 {
-    let mut path = Vec::new(alloc);
-    if section != Section::Top {
-        path.push(PathStep::Key(Key::Entries(section)))?;
-        path.push(PathStep::Item((number as usize).saturating_sub(1)))?;
+    if section == Section::Top {
+        return Vec::from_slice(alloc, &[PathStep::Key(key)]);
     }
-    path.push(PathStep::Key(key))?;
-    Ok(path)
+    let entries = PathStep::Key(Key::Entries(section));
+    let entry = PathStep::Item((number as usize).saturating_sub(1));
+    Vec::from_slice(alloc, &[entries, entry, PathStep::Key(key)])
 }
 
 /// The path to what the subject is about: the whole step for a word of it, and the whole entry for

@@ -60,13 +60,16 @@ pub fn first_named(tree: &Value, section: Section, name: &str) -> usize {
     let Some(Value::Array(entries)) = tree.get(section.word()) else {
         return 0;
     };
-    let place = entries.iter().position(
-        |entry| matches!(entry.get("name"), Some(Value::String(n)) if n.as_str() == name),
-    );
-    match place {
-        Some(place) => place.saturating_add(1),
-        None => 0,
+    let mut number: usize = 0;
+    for entry in entries {
+        number = number.saturating_add(1);
+        if let Some(Value::String(other)) = entry.get("name")
+            && other.as_str() == name
+        {
+            return number;
+        }
     }
+    0
 }
 
 /// The names of a section's entries, as far as they are short texts.
