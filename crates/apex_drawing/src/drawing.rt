@@ -181,12 +181,13 @@ fn draw_event<S: Store>(
         return Ok(());
     };
     kernel.holds();
-    let Some(entry) = kernel.entries().latest() else {
+    let latest = kernel.entries().latest();
+    let Some(entry) = &latest else {
         return Ok(());
     };
     let begun = *instant;
     *instant = begun.next(kernel.now());
-    put_column(text, style, kernel, begun, *instant, &entry, shown)
+    put_column(text, style, kernel, begun, *instant, entry, shown)
 }
 
 /// Writes the text out, and forgets it.

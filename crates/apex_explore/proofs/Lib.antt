@@ -2,6 +2,7 @@ pub mod Encoding
 pub mod Finding
 pub mod Growth
 pub mod Hitting
+pub mod Joining
 pub mod Keeping
 pub mod Leading
 pub mod Levels

@@ -12,11 +12,11 @@ use Rattle.apex_states.specs.States.{Reached}
 use Rattle.apex_states.specs.declared.states.Origin.{Origin}
 use Rattle.apex_states.proofs.Fronts.{at_old_place}
 use Rattle.apex_explore.specs.declared.fronts.Front.{Front}
-use Rattle.apex_explore.specs.declared.parts.Expansion.{Expansion}
+use Rattle.apex_states.specs.declared.expansions.Expansion.{Expansion}
 use Rattle.apex_explore.specs.declared.search.Stop.{Stop}
 use Rattle.apex_explore.specs.declared.search.Stop.TheVariants as stops
 use Rattle.apex_explore.specs.Levels.{IsAt, IsChild, IsLevel, Keeps, Stops}
-use Rattle.apex_explore.specs.Parts.{Ends, Expanded, Fit, FitsOne, Follows, GrowsBy, IsExpansion, IsFrom, IsPast, Stands}
+use Rattle.apex_explore.specs.Parts.{Ends, Expanded, FitsOne, Follows, GrowsBy, IsExpansion, IsFrom, Stands}
 use Rattle.apex_explore.specs.Systems.{Step, refuses, goes, hits}
 use Rattle.apex_explore.proofs.Levels.{IsAmong-widen, IsTraced-widen, Keeps-widen}
 
@@ -62,7 +62,7 @@ module _ {K : Type 0} (step : K → ℕ → Step K) where
 -- What the states that are kept leave.
 
 -- a step that goes on to a state that was found goes on to one that is there
-Keeps-there : (found states : List (List ℕ)) (taken : Step (List ℕ))
+pub Keeps-there : (found states : List (List ℕ)) (taken : Step (List ℕ))
     → ((place : ℕ) (k : List ℕ) → slice_get found place ≡ Some k → IsKnown states k)
     → Keeps found taken → Keeps states taken
 Keeps-there found states refuses there kept = kept
@@ -230,8 +230,6 @@ module _ (step : List ℕ → ℕ → Step (List ℕ)) (is_state : List ℕ → 
   pub Follows-past : AreKept expansion.finds old new true → Follows step is_state first word_count old new (record front { at = expansion.end }) None
   Follows-past kept = follows (record front { at = expansion.end }) None kept.goes_on (taken_all step is_state first old new front expansion stands.level fits kept.goes_on kept.there) tt
 
--- Expansions, one after the other.
-
 -- an expansion of states that stay there
 pub Expanded-later : (step : List ℕ → ℕ → Step (List ℕ)) (is_state : List ℕ → Type 0) (from limit : ℕ) (old new : Reached) (expansion : Expansion)
     → IsFront old.states new.states → new.width ≡ old.width → Expanded step is_state old from limit expansion → Expanded step is_state new from limit expansion
@@ -245,43 +243,3 @@ Expanded-later step is_state from limit old new expansion front width expanded =
   };
   is = subst (λ n. IsExpansion step n is_state expanded.copies expansion) (sym width) expanded.is;
 }
-
--- the expansions from `place` on fit
-pub record IsTaking (step : List ℕ → ℕ → Step (List ℕ)) (is_state : List ℕ → Type 0) (reached : Reached) (front : Front) (limit : ℕ) (expansions : List Expansion) (place : ℕ) : Type 0 where
-  pub start : ℕ → ℕ
-  pub here : start place ≡ front.at
-  pub last : start (length expansions) ≡ limit
-  pub within : (at : ℕ) → start at ≤ limit
-  pub level : limit ≤ front.level_end
-  pub each : (at : ℕ) (expansion : Expansion) → slice_get expansions at ≡ Some expansion → Expanded step is_state reached (start at) (start (at + 1)) expansion
-
-pub IsTaking-start : (step : List ℕ → ℕ → Step (List ℕ)) (is_state : List ℕ → Type 0) (reached : Reached) (front : Front) (limit : ℕ) (expansions : List Expansion)
-    → Fit step is_state reached front limit expansions → IsTaking step is_state reached front limit expansions 0
-IsTaking-start step is_state reached front limit expansions fit = record { start = fit.start; here = fit.first; last = fit.last; within = fit.within; level = fit.level; each = fit.each }
-
-module _ (step : List ℕ → ℕ → Step (List ℕ)) (is_state : List ℕ → Type 0) (reached : Reached) (front : Front) (limit : ℕ) (expansions : List Expansion) (place : ℕ)
-    (taking : IsTaking step is_state reached front limit expansions place) where
-  pub IsTaking-one : (expansion : Expansion) → slice_get expansions place ≡ Some expansion → FitsOne step is_state reached front expansion
-  IsTaking-one expansion is = record {
-    limit = taking.start (place + 1);
-    expanded = subst (λ n. Expanded step is_state reached n (taking.start (place + 1)) expansion) taking.here (taking.each place expansion is);
-    level = omega (arith, taking.within (place + 1), taking.level);
-  }
-
-  pub IsTaking-next : (expansion : Expansion) (new : Reached) (past : Front) → slice_get expansions place ≡ Some expansion → IsFront reached.states new.states → new.width ≡ reached.width
-      → IsPast expansion.end front past → expansion.hit ≡ None → IsTaking step is_state new past limit expansions (place + 1)
-  IsTaking-next expansion new past is states_front width passed none =
-      let expanded = taking.each place expansion is in
-      let Is : Option ℕ → Type 0 = λ h. Ends step expanded.copies.states expanded.is.done h in
-      let all : expanded.is.done ≡ length expanded.copies.states = subst Is none expanded.is.ends in
-      record {
-        start = taking.start;
-        here = omega (arith, passed.at, expanded.is.end, all, expanded.copied.first, expanded.copied.whole);
-        last = taking.last;
-        within = taking.within;
-        level = omega (arith, taking.level, passed.level);
-        each = λ at other there. Expanded-later step is_state (taking.start at) (taking.start (at + 1)) reached new other states_front width (taking.each at other there);
-      }
-
-  pub IsTaking-end : place ≡ length expansions → front.at ≡ limit
-  IsTaking-end end = sym taking.here ∙ (ap taking.start end ∙ taking.last)

@@ -4,7 +4,7 @@ use Rattle.std.specs.declared.alloc.AllocError.{AllocError}
 use Rattle.apex_explore.specs.Parts.{IsExpansion}
 use Rattle.apex_explore.specs.Systems.{Step}
 use Rattle.apex_explore.specs.declared.desks.Desk.{Desk}
-use Rattle.apex_explore.specs.declared.parts.Expansion.{Expansion}
+use Rattle.apex_states.specs.declared.expansions.Expansion.{Expansion}
 use Rattle.apex_states.specs.Batches.{Copies}
 use Rattle.apex_states.specs.Lists.{AllAre}
 

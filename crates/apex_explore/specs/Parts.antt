@@ -6,7 +6,7 @@ use Rattle.apex_states.specs.Lists.{AllAre, IsFront}
 use Rattle.apex_states.specs.States.{Reached}
 use Rattle.apex_states.specs.declared.states.Origin.{Origin}
 use Rattle.apex_explore.specs.declared.fronts.Front.{Front}
-use Rattle.apex_explore.specs.declared.parts.Expansion.{Expansion}
+use Rattle.apex_states.specs.declared.expansions.Expansion.{Expansion}
 use Rattle.apex_explore.specs.declared.search.Stop.{Stop}
 use Rattle.apex_explore.specs.Levels.{IsAt, IsChild, Keeps, Stops}
 use Rattle.apex_explore.specs.Systems.{Step, goes, hits}

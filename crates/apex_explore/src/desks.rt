@@ -4,9 +4,9 @@ ghost use Rattle.apex_explore.specs.Desks.{IsDesk, IsMade, IsReady};
 ghost use Rattle.apex_explore.specs.Systems.{step_within};
 ghost use Rattle.apex_states.specs.Batches.{IsCopied};
 
-use crate::parts::{Expansion, expand_batch};
+use crate::parts::expand_batch;
 use crate::systems::System;
-use apex_states::{Batch, Finds, States};
+use apex_states::{Batch, Expansion, Finds, States};
 use std::alloc::{AllocError, Global};
 
 /// What one thread needs to expand states: copies of them, and a workspace of its own.

@@ -17,7 +17,6 @@ mod watches;
 pub use answers::Answer;
 pub use desks::Desk;
 pub use hits::is_hit;
-pub use parts::Expansion;
 pub use search::{Stop, explore};
 pub use searches::{Places, Search};
 pub use systems::{System, Taken};

@@ -6,19 +6,8 @@ ghost use Rattle.apex_states.specs.Finds.{no_finds};
 ghost use Rattle.apex_states.specs.Lists.{AllAre};
 
 use crate::systems::{System, Taken};
-use apex_states::{Batch, Finds, Origin};
+use apex_states::{Batch, Expansion, Finds, Origin};
 use std::alloc::{AllocError, Global};
-
-/// What the choices in the states of a batch do.
-#[derive(Drop)]
-pub struct Expansion {
-    /// The states to which they go on, in order.
-    pub(crate) finds: Finds,
-    /// The place after the last state that is done.
-    pub(crate) end: usize,
-    /// The choice that hits in the state at that place. If there is one, the expansion ends there.
-    pub(crate) hit: Option<u32>,
-}
 
 /// Makes each choice in the state, which is the one at `place`, until one hits: the choice. Fails only
 /// for want of memory.

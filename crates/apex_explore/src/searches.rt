@@ -9,13 +9,12 @@ ghost use Rattle.apex_states.specs.Lists.{IsFront};
 
 use crate::answers::Answer;
 use crate::fronts::Front;
-use crate::parts::Expansion;
 use crate::paths::path_to;
 use crate::search::{Stop, advance};
 use crate::systems::System;
 use crate::taking::take_all;
 use crate::watches::Watch;
-use apex_states::{Origin, States};
+use apex_states::{Expansion, Origin, States};
 use std::alloc::{AllocError, Global};
 use std::thread::Threads;
 
@@ -163,7 +162,7 @@ impl<W: Drop> Search<W> {
     }
 
     /// Goes on by these expansions of the states from the one that is next on and before `limit`, or
-    /// until there is an answer: why it stops then. A thread keeps the left half of each state, if it can be
+    /// until there is an answer: why it stops then. A thread numbers the left half of each state, if it can be
     /// made, and the caller the right one. Fails only for want of memory.
     pub fn take<R: Threads, S: System<Workspace = W>>(
         &mut self,

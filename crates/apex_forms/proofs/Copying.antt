@@ -1,12 +1,12 @@
 -- Objects, copied one after the other.
-use Rattle.std.proofs.Common.{◌≡◌, ℕ, ◌+◌, ◌<◌, ◌≤◌, Bool, List, [], length, get_or, set, refl, sym, ◌∙◌, ap, subst, arith, inl, inr}
-use Rattle.std.proofs.lemmas.Bool.{cases_eq}
+use Rattle.std.proofs.Common.{◌≡◌, ℕ, ◌+◌, ◌<◌, ◌≤◌, Bool, List, [], length, Option, get_or, set, refl, sym, ◌∙◌, ap, subst, arith, inl, inr}
+use Rattle.std.proofs.lemmas.Bool.{cases_eq, cases_lt, le-ltb, lt-ltb}
 use Rattle.std.proofs.lemmas.List.{ext_get_or, get_or_default, get_or-set_other, get_or-set_same, length-set}
 use Rattle.apex_forms.proofs.Forming.{before_more}
 use Rattle.apex_forms.proofs.Places.{length-processes}
-use Rattle.apex_forms.specs.Copied.{AreOfKinds, AreSameBuffers}
-use Rattle.apex_forms.specs.Restored.{objects_in, records_from}
-use Rattle.apex_forms.specs.Terms.{Message}
+use Rattle.apex_forms.specs.Copied.{AreOfKinds, AreSameBuffers, works_before}
+use Rattle.apex_forms.specs.Restored.{objects_in, records_from, works_in}
+use Rattle.apex_forms.specs.Terms.{Message, OpenWork}
 use Rattle.apex_machine.specs.Deeds.{Objects}
 use Rattle.apex_machine.specs.Machine.{objects_after}
 use Rattle.apex_machine.specs.services.BufferServices.{BufferObject, buffer_kind}
@@ -87,3 +87,11 @@ pub copying_ends : (old others now : List BufferObject) (place : ℕ) → AreSam
 copying_ends old others now place same copying all =
     ext_get_or buffer_kind.absent now others (copying.many ∙ same.many)
     (λ p within. copying.done p buffer_kind.absent (omega (arith, within, all)))
+
+-- works that are those of the words are so among the first cores
+pub works_kept : (cores many : ℕ) (words : List ℕ) (known : ℕ → Option OpenWork) (core : ℕ) → cores ≤ many
+    → known core ≡ works_in cores words core → works_before many known core ≡ works_in cores words core
+works_kept cores many words known core within same = elim (cases_lt core many) [
+  | inl below ↦ rw (lt-ltb core many below) same
+  | inr above ↦ rw (le-ltb core many above, le-ltb core cores (omega (arith, above, within))) refl
+]

@@ -1,18 +1,14 @@
 -- The canonical records, made one after the other.
-use Rattle.std.proofs.Common.{◌≡◌, ◌≢◌, ◌&&◌, ◌==◌, Bool, true, false, not, count_by, map, Option, if◌then◌else◌, ◌∙◌, ℕ, zero, suc, ◌+◌, ◌*◌, ◌<◌, ◌≤◌, List, [], ◌∷◌, length, get_or, set, take, drop, max, pos, ℤ, slice_index, subst, refl, sym, ap, arith, add-one, inl, inr}
+use Rattle.std.proofs.Common.{◌≡◌, ◌≢◌, ◌∙◌, ℕ, zero, suc, ◌+◌, ◌*◌, ◌<◌, ◌≤◌, List, [], ◌∷◌, length, get_or, set, drop, max, pos, ℤ, slice_index, subst, refl, sym, ap, arith, add-one, inl, inr}
 use Rattle.std.proofs.Math.Seq.{drop-cons}
-use Rattle.std.specs.List.{fold}
 use Rattle.std.proofs.lemmas.Bool.{cases_eq}
-use Rattle.std.proofs.lemmas.List.{ext_get_or, get_or-map, get_or-set_other, get_or-set_same, get_or-take, length-map, length-set, length-take-le}
+use Rattle.std.proofs.lemmas.List.{ext_get_or, get_or-set_other, get_or-set_same, length-set}
 use Rattle.apex_types.proofs.Places.{get_or-map_places, length-map_places}
-use Rattle.apex_alike.specs.Canonical.{IsFit, age, canonical_record, canonical_roster, oldest_age, rank, shares, vies}
+use Rattle.apex_alike.specs.Canonical.{IsFit, age, canonical_record, canonical_roster, oldest_age, rank}
 use Rattle.apex_machine.specs.processes.Roster.{Roster, nobody, record_at}
-use Rattle.apex_machine.specs.processes.Running.{is_eligible, is_older}
-use Rattle.apex_machine.specs.processes.Waiters.{queue_in}
-use Rattle.apex_forms.specs.Forms.{AreRanks, AreRivals, form_of, is_older_rival, rival_by, rival_of, vie, with_form, with_forms}
+use Rattle.apex_forms.specs.Forms.{AreRanks, form_of, with_form, with_forms}
 use Rattle.apex_forms.specs.Records.{FitsRecord}
-use Rattle.apex_forms.specs.Terms.{Mode, Queue, Record, Rival}
-use Rattle.apex_types.specs.declared.limits.TheConstants.{MOST_PROCESSES}
+use Rattle.apex_forms.specs.Terms.{Mode, Record}
 use Rattle.apex_alike.proofs.Canonical.{oldest_less}
 
 -- the oldest age of the records from a place on
@@ -27,105 +23,8 @@ oldest_least now [] p within = absurd (omega (arith, within))
 oldest_least now (r ∷ rs) zero within = omega arith
 oldest_least now (r ∷ rs) (suc p) within = omega (arith, oldest_least now rs p (omega (arith, within)))
 
--- a process without rivals has none that are older
-none_counted : (is : Rival → Bool) (rs : List Rival) → ((r : Rival) → is r ≡ false) → count_by is rs ≡ 0
-none_counted is [] none = refl
-none_counted is (r ∷ rs) none = rw (none r) (none_counted is rs none)
-
-pub no_rivals : (one : Rival) (rs : List Rival) → ((other : Rival) → vie one other ≡ false) → 0 ≡ count_by (is_older_rival one) rs
-no_rivals one rs none = sym (none_counted (is_older_rival one) rs (λ other. rw (none other) refl))
-
--- two processes vie for one thing exactly if they are rivals
-same_vie : (e f : Bool) (c d : ℕ) (q r : Option Queue) (a b : ℤ)
-    → vie (rival_by e c q a) (rival_by f d r b) ≡ (if e then f && d == c else not f && shares q r)
-same_vie true true c d q r a b = refl
-same_vie true false c d q r a b = refl
-same_vie false true c d q r a b = refl
-same_vie false false c d q r a b = refl
-
--- as many of these pass as of those of which they were made
-counted : {X Y : Type 0} (passes : Y → Bool) (also : X → Bool) (made : X → Y) → ((x : X) → passes (made x) ≡ also x) → (xs : List X) (n : ℕ)
-    → fold (λ k y. k + (if passes y then 1 else 0)) n (map made xs) ≡ fold (λ k x. k + (if also x then 1 else 0)) n xs
-counted passes also made same [] n = refl
-counted passes also made same (x ∷ xs) n =
-    counted passes also made same xs (n + (if passes (made x) then 1 else 0))
-    ∙ ap (λ (b : Bool). fold (λ k y. k + (if also y then 1 else 0)) (n + (if b then 1 else 0)) xs) (same x)
-
--- the older rivals of a process are as many as its rank
-rivals_counted : (mode : Mode) (r : Record) (rs : List Record)
-    → count_by (is_older_rival (rival_of mode r)) (map (rival_of mode) rs)
-    ≡ count_by (λ s. vies mode r s && is_older s r) rs
-rivals_counted mode r rs =
-    counted (is_older_rival (rival_of mode r)) (λ s. vies mode r s && is_older s r) (rival_of mode)
-    (λ s. ap (λ (b : Bool). b && is_older s r)
-    (same_vie (is_eligible mode r) (is_eligible mode s) r.core s.core (queue_in r) (queue_in s) r.since s.since)) rs 0
-
--- the rivals are those of the records
-rivals_are : (roster : Roster) (rivals : List Rival) → AreRivals roster rivals (length roster.records)
-    → length roster.records ≤ MOST_PROCESSES
-    → take (length roster.records) rivals ≡ map (rival_of roster.mode) roster.records
-rivals_are roster rivals are few =
-    let none : Rival = rival_of roster.mode nobody in
-    ext_get_or none (take (length roster.records) rivals) (map (rival_of roster.mode) roster.records)
-    (length-take-le (length roster.records) rivals (omega (arith, few, are.many)) ∙ sym (length-map roster.records (rival_of roster.mode)))
-    (λ p here.
-    let within : p < length roster.records = omega (arith, here, length-take-le (length roster.records) rivals (omega (arith, few, are.many))) in
-    get_or-take (length roster.records) rivals p none within ∙ are.each p none within
-    ∙ sym (get_or-map (rival_of roster.mode) roster.records p nobody none within))
-
--- the number of older rivals that was counted is the rank
-pub rank_is : (roster : Roster) (rivals : List Rival) (count place value : ℕ) (one : Rival) → AreRivals roster rivals (length roster.records)
-    → length roster.records ≤ MOST_PROCESSES → count ≡ length roster.records → place < length roster.records
-    → one ≡ rival_of roster.mode (record_at roster place)
-    → value ≡ count_by (is_older_rival one) (take count rivals)
-    → value ≡ rank roster (record_at roster place)
-rank_is roster rivals count place value one are few all within is counted =
-    counted
-    ∙ ap (λ (n : ℕ). count_by (is_older_rival one) (take n rivals)) all
-    ∙ ap (count_by (is_older_rival one)) (rivals_are roster rivals are few)
-    ∙ ap (λ (r : Rival). count_by (is_older_rival r) (map (rival_of roster.mode) roster.records)) is
-    ∙ rivals_counted roster.mode (record_at roster place) roster.records
-
 pub before_more : (p place : ℕ) → p < place + 1 → p ≢ place → p < place
 before_more p place below other = omega (arith, below, other)
-
--- one rival more
-pub rivals_more : (roster : Roster) (rivals : List Rival) (place q : ℕ) (one : Rival) → AreRivals roster rivals place
-    → place < MOST_PROCESSES → q ≡ place → one ≡ rival_of roster.mode (record_at roster q)
-    → AreRivals roster (set rivals place one) (place + 1)
-rivals_more roster rivals place q one are within here is =
-    let own : one ≡ rival_of roster.mode (record_at roster place) = rw here at is in
-    record {
-      many = length-set rivals place one ∙ are.many;
-      each = λ p other below. elim (cases_eq p place) [
-        | inl same ↦ rw same (get_or-set_same rivals place one other (omega (arith, within, are.many)) ∙ own)
-        | inr apart ↦ get_or-set_other rivals place p one other apart ∙ are.each p other (before_more p place below apart)
-      ];
-    }
-
--- the ranks of the processes before a place are counted
-pub record AreRanked (roster : Roster) (ranks : List ℕ) (place : ℕ) : Type 0 where
-  pub many : length ranks ≡ MOST_PROCESSES
-  pub done : (p : ℕ) → p < place → slice_index ranks p ≡ rank roster (record_at roster p)
-  pub few : (p : ℕ) → p < place → rank roster (record_at roster p) ≤ MOST_PROCESSES
-
--- one rank more
-pub ranked_more : (roster : Roster) (ranks : List ℕ) (place q value : ℕ) → AreRanked roster ranks place → place < MOST_PROCESSES
-    → q ≡ place → value ≡ rank roster (record_at roster q) → value ≤ MOST_PROCESSES
-    → AreRanked roster (set ranks place value) (place + 1)
-ranked_more roster ranks place q value ranked within here is most =
-    let own : value ≡ rank roster (record_at roster place) = rw here at is in
-    record {
-      many = length-set ranks place value ∙ ranked.many;
-      done = λ p below. elim (cases_eq p place) [
-        | inl same ↦ rw same (get_or-set_same ranks place value 0 (omega (arith, within, ranked.many)) ∙ own)
-        | inr other ↦ get_or-set_other ranks place p value 0 other ∙ ranked.done p (before_more p place below other)
-      ];
-      few = λ p below. elim (cases_eq p place) [
-        | inl same ↦ rw (same, ← own) most
-        | inr other ↦ ranked.few p (before_more p place below other)
-      ];
-    }
 
 -- the records before a place have their canonical form, and nothing else has changed
 pub record IsForming (old new : Roster) (now place : ℕ) : Type 0 where

@@ -13,6 +13,7 @@ pub mod PartsBack
 pub mod Picked
 pub mod Places
 pub mod Puts
+pub mod Ranking
 pub mod ReachedNext
 pub mod Ready
 pub mod RecordsBack

@@ -1,7 +1,8 @@
 -- Objects that differ in their values alone.
-use Rattle.std.specs.Prelude.{◌≡◌, ℕ, ◌<◌, List, length, slice_index_or}
+use Rattle.std.specs.Prelude.{◌≡◌, ℕ, ◌<◌, List, length, nat_lt, Option, None, slice_index_or, if◌then◌else◌}
 use Rattle.apex_machine.specs.Deeds.{Objects}
 use Rattle.apex_machine.specs.services.BufferServices.{BufferObject}
+use Rattle.apex_forms.specs.Terms.{OpenWork}
 
 -- there are as many buffers, and each is as large
 pub record AreSameBuffers (some others : List BufferObject) : Type 0 where
@@ -19,3 +20,7 @@ pub record AreOfKinds (some others : Objects) : Type 0 where
   pub blackboards : length some.blackboards ≡ length others.blackboards
   pub event_flags : length some.event_flags ≡ length others.event_flags
   pub mutexes : length some.mutexes ≡ length others.mutexes
+
+-- the works of the first cores, `many` of them, and none of the others
+abbrev pub works_before : ℕ → (ℕ → Option OpenWork) → ℕ → Option OpenWork
+works_before many works core = if nat_lt core many then works core else None

@@ -1,11 +1,13 @@
 -- The canonical form as the code makes it: record by record, with the ranks counted before.
-use Rattle.std.specs.Prelude.{◌≡◌, ℕ, ◌-◌, ◌<◌, ◌==◌, ◌&&◌, length, ◌≤◌, min, Bool, false, int_lt, List, Option, None, Some, ℤ, slice_index, slice_index_or, if◌then◌else◌}
-use Rattle.apex_alike.specs.Canonical.{age, canonical, canonical_record, earlier, rank, shares}
+use Rattle.std.specs.Prelude.{◌≡◌, ℕ, ◌-◌, ◌<◌, ◌==◌, ◌&&◌, length, ◌≤◌, min, Bool, true, false, count_by, take, List, Option, None, Some, ℤ, slice_index, slice_index_or, if◌then◌else◌}
+use Rattle.apex_alike.specs.Canonical.{age, canonical, canonical_record, earlier, rank, vies}
 use Rattle.apex_machine.specs.processes.Roster.{Roster, record_at, with_record}
-use Rattle.apex_machine.specs.processes.Running.{is_eligible}
+use Rattle.apex_machine.specs.processes.Queues.{is_same_queue}
+use Rattle.apex_machine.specs.processes.Running.{is_eligible, is_older}
 use Rattle.apex_machine.specs.processes.Waiters.{queue_in}
 use Rattle.apex_pace.specs.Pace.{Paced}
-use Rattle.apex_forms.specs.Terms.{Mode, Moments, OpenWork, Pace, Queue, Record, Rival}
+use Rattle.apex_forms.specs.Terms.{Contest, Mode, Moments, OpenWork, Pace, Queue, Record}
+use Rattle.apex_forms.specs.declared.forms.Contest.TheVariants as contests
 use Rattle.apex_types.specs.Places.{map_places}
 use Rattle.apex_types.specs.declared.limits.TheConstants.{MOST_PROCESSES}
 
@@ -49,35 +51,37 @@ with_forms roster now = record roster {
   records = map_places (canonical_record roster now) 0 roster.records;
 }
 
--- the process among its rivals: its core if it is eligible, the queue in which it is, and its stamp
-abbrev pub rival_by : Bool → ℕ → Option Queue → ℤ → Rival
-rival_by eligible core queue since = record {
-  core = if eligible then Some core else None;
-  queue = queue;
-  since = since;
-}
+-- what a process vies for: its core if it is eligible, or else its place in its queue
+abbrev pub contest_by : Bool → ℕ → Option Queue → Contest
+contest_by true core queue = contests.Core core
+contest_by false core (Some queue) = contests.Queue queue
+contest_by false core None = contests.Nothing
 
-abbrev pub rival_of : Mode → Record → Rival
-rival_of mode r = rival_by (is_eligible mode r) r.core (queue_in r) r.since
+abbrev pub contest_of : Mode → Record → Contest
+contest_of mode r = contest_by (is_eligible mode r) r.core (queue_in r)
 
 -- the two vie for one core or in one queue
-abbrev pub vie_by : Option ℕ → Option ℕ → Bool → Bool
-vie_by (Some core) (Some other) queued = other == core
-vie_by None None queued = queued
-vie_by _ _ queued = false
+abbrev pub vie : Contest → Contest → Bool
+vie (contests.Core core) (contests.Core other) = other == core
+vie (contests.Queue queue) (contests.Queue other) = is_same_queue queue other
+vie _ _ = false
 
-abbrev pub vie : Rival → Rival → Bool
-vie one other = vie_by one.core other.core (shares one.queue other.queue)
+-- what the processes before a place vie for
+pub record AreContests (roster : Roster) (contests : List Contest) (place : ℕ) : Type 0 where
+  pub many : length contests ≡ MOST_PROCESSES
+  pub each : (p : ℕ) (other : Contest) → p < place
+      → slice_index_or contests p other ≡ contest_of roster.mode (record_at roster p)
 
--- the other vies with this one, and has an older stamp
-abbrev pub is_older_rival : Rival → Rival → Bool
-is_older_rival one other = vie one other && int_lt other.since one.since
+-- the number of processes before a place that are older rivals of process p
+abbrev pub older_before : Roster → ℕ → ℕ → ℕ
+older_before roster p place =
+    let r = record_at roster p in
+    count_by (λ s. vies roster.mode r s && is_older s r) (take place roster.records)
 
--- the processes before a place, each among its rivals
-pub record AreRivals (roster : Roster) (rivals : List Rival) (place : ℕ) : Type 0 where
-  pub many : length rivals ≡ MOST_PROCESSES
-  pub each : (p : ℕ) (other : Rival) → p < place
-      → slice_index_or rivals p other ≡ rival_of roster.mode (record_at roster p)
+-- the first ranks, `many` of them, count the older rivals before a place
+pub record AreCounted (roster : Roster) (ranks : List ℕ) (many place : ℕ) : Type 0 where
+  pub room : length ranks ≡ MOST_PROCESSES
+  pub each : (p : ℕ) → p < many → slice_index ranks p ≡ older_before roster p place
 
 -- the ranks of the processes, one each, and no more of them than there is room for
 pub record AreRanks (roster : Roster) (ranks : List ℕ) : Type 0 where

@@ -1,7 +1,7 @@
 -- The terms in which the definitions of this crate speak.
 pub use Rattle.apex_forms.specs.declared.codes.WaitCode.{WaitCode}
+pub use Rattle.apex_forms.specs.declared.forms.Contest.{Contest}
 pub use Rattle.apex_forms.specs.declared.forms.Moments.{Moments}
-pub use Rattle.apex_forms.specs.declared.forms.Rival.{Rival}
 pub use Rattle.apex_machine.specs.declared.holdings.Holding.{Holding}
 pub use Rattle.apex_machine.specs.declared.records.Attributes.{Attributes}
 pub use Rattle.apex_machine.specs.declared.records.Queue.{Queue}

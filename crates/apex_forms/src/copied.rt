@@ -1,17 +1,19 @@
 //! A situation that is known, in the memory of another one of its table.
-ghost use Rattle.std.specs.Prelude.{◌≡◌, length};
-ghost use Rattle.apex_choices.specs.Counts.{IsSamePaced, paced_in};
-ghost use Rattle.apex_forms.specs.Copied.{AreOfKinds, AreSameBuffers};
+ghost use Rattle.std.specs.Prelude.{◌≡◌, ℕ, length};
+ghost use Rattle.apex_types.specs.declared.limits.TheConstants.{MOST_CORES};
+ghost use Rattle.apex_choices.specs.Counts.{IsSamePaced, count_at, paced_in};
+ghost use Rattle.apex_dispatch.specs.Works.{work_at};
+ghost use Rattle.apex_forms.specs.Copied.{AreOfKinds, AreSameBuffers, works_before};
 ghost use Rattle.apex_forms.specs.Restored.{IsOfTable, IsStored, paced_from};
 
 use crate::codes::mode_in;
-use crate::restored::{counts_in, first_stamp, works_in};
+use crate::restored::{CORES, first_stamp};
 use apex_buffer::Buffer;
-use apex_choices::PacedSituation;
+use apex_choices::{Counts, PacedSituation};
 use apex_configs::Table;
-use apex_dispatch::{Objects, Situation};
+use apex_dispatch::{Objects, Situation, Works};
 use apex_store::{Object, PlainStore, Store};
-use apex_types::{MOST_MESSAGES, Message, ProcessId};
+use apex_types::{CoreId, MOST_CORES, MOST_MESSAGES, Message, ProcessId};
 use arrayvec::ArrayVec;
 
 /// The messages of the buffer.
@@ -75,6 +77,32 @@ fn copy_records(store: &mut PlainStore, others: &PlainStore)
     }
 }
 
+/// The work of each core, as it is in this situation.
+fn works_of(paced: &PacedSituation) -> Works
+    ensures { (core : ℕ) → work_at result core
+        ≡ works_before MOST_CORES (paced_in paced.now).situation.works core }
+{
+    let mut of_core = [None; CORES];
+    for number in 0..MOST_CORES as u8 {
+        of_core[usize::from(number)] = paced.work(CoreId::new(number));
+    }
+    Works::of(of_core)
+}
+
+/// What the pace counts of each core, as it is here.
+fn counts_of(paced: &PacedSituation) -> Counts
+    ensures turns { (core : ℕ) → count_at result.turns core ≡ (paced_in paced.now).turns core }
+    ensures worked { (core : ℕ) → count_at result.worked core ≡ (paced_in paced.now).worked core }
+{
+    paced.counts.cover_all();
+    let mut counts = Counts::new();
+    for number in 0..MOST_CORES as u8 {
+        let core = CoreId::new(number);
+        counts.set(core, paced.counts.turns(core), paced.counts.worked(core));
+    }
+    counts
+}
+
 /// The situation of these words and what the pace counts there, in the memory of this one;
 /// `known` is that situation.
 pub fn restore_known(
@@ -95,10 +123,8 @@ pub fn restore_known(
     copy_records(&mut store, known.situation.store());
     store.set_clock(mode_in(words[0]), words[1], young, 0);
     copy_objects(&mut objects, known.situation.objects());
-    let cores = table.cores();
-    let works = works_in(cores, words);
     PacedSituation {
-        situation: Situation::new(store, objects, works, words[2] as usize),
-        counts: counts_in(cores, words),
+        situation: Situation::new(store, objects, works_of(known), words[2] as usize),
+        counts: counts_of(known),
     }
 }

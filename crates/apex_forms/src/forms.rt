@@ -1,12 +1,13 @@
 //! The canonical form of the processes: stamps by ranks, instants from the oldest release that
 //! matters on, and nothing that does not matter.
-ghost use Rattle.std.specs.Prelude.{◌≡◌, true, false, ◌+◌, ◌*◌, ◌<◌, ◌≤◌, count_by, length, pos};
+ghost use Rattle.std.specs.Prelude.{◌≡◌, true, false, ◌+◌, ◌*◌, ◌<◌, ◌≤◌, length, pos};
 ghost use Rattle.apex_types.specs.declared.limits.TheConstants.{MOST_PROCESSES};
 ghost use Rattle.apex_machine.specs.processes.Periods.{HasNoFutureRelease, awaits_first};
 ghost use Rattle.apex_machine.specs.processes.Roster.{record_at};
-ghost use Rattle.apex_alike.specs.Canonical.{IsFit, age, canonical_record, canonical_roster, earlier, oldest_age, recent, shares};
-ghost use Rattle.apex_forms.specs.Forms.{AreRanks, AreRivals, form_of, is_older_rival, moments_of, rival_of, vie, with_form, with_forms, with_moments};
-ghost use Rattle.apex_forms.specs.Terms.{Rival};
+ghost use Rattle.apex_machine.specs.processes.Running.{is_older};
+ghost use Rattle.apex_alike.specs.Canonical.{IsFit, age, canonical_record, canonical_roster, earlier, oldest_age, recent};
+ghost use Rattle.apex_forms.specs.Terms.{Contest};
+ghost use Rattle.apex_forms.specs.Forms.{AreContests, AreCounted, AreRanks, contest_of, form_of, moments_of, older_before, vie, with_form, with_forms, with_moments};
 
 use apex_machine::{Queue, Record, Wait};
 use apex_store::{PlainStore, Store};
@@ -22,112 +23,106 @@ pub(crate) struct Moments {
     pub(crate) release: u64,
 }
 
-/// A process among its rivals: its core if it is eligible, the queue in which it is, and its stamp.
+/// What a process vies for: its core if it is eligible, or else its place in the queue in which it
+/// is.
 #[derive(Clone, Copy)]
-pub(crate) struct Rival {
-    core: Option<u8>,
-    queue: Option<Queue>,
-    since: i64,
+pub(crate) enum Contest {
+    Nothing,
+    Core(u8),
+    Queue(Queue),
 }
 
-/// A process that vies for nothing.
-const NO_RIVAL: Rival = Rival {
-    core: None,
-    queue: None,
-    since: 0,
-};
-
-/// The process among its rivals.
-fn rival_of(mode: Mode, fields: &Record) -> Rival
-    ensures { result ≡ rival_of mode fields.now }
+/// What the process vies for.
+fn contest_of(mode: Mode, fields: &Record) -> Contest
+    ensures { result ≡ contest_of mode fields.now }
 {
-    let core = if fields.is_eligible(mode) {
-        Some(fields.core.number())
-    } else {
-        None
-    };
-    Rival {
-        core,
-        queue: fields.queue(),
-        since: fields.since,
+    if fields.is_eligible(mode) {
+        return Contest::Core(fields.core.number());
     }
-}
-
-/// Both are in one queue.
-fn shares(one: Option<Queue>, other: Option<Queue>) -> bool
-    ensures { result ≡ shares one other }
-{
-    match (one, other) {
-        (Some(one), Some(other)) => one == other,
-        _ => false,
+    match fields.queue() {
+        Some(queue) => Contest::Queue(queue),
+        None => Contest::Nothing,
     }
 }
 
 /// The two vie for one core or in one queue.
-fn vie(one: &Rival, other: &Rival) -> bool
+fn vie(one: &Contest, other: &Contest) -> bool
     ensures { result ≡ vie one.now other.now }
 {
-    match (one.core, other.core) {
-        (Some(core), Some(other)) => other == core,
-        (None, None) => shares(one.queue, other.queue),
+    match (one, other) {
+        (Contest::Core(core), Contest::Core(other)) => other == core,
+        (Contest::Queue(queue), Contest::Queue(other)) => queue == other,
         _ => false,
     }
 }
 
-/// The other vies with this one, and has an older stamp.
-fn is_older_rival(one: &Rival, other: &Rival) -> bool
-    ensures { result ≡ is_older_rival one.now other.now }
+/// The process vies for nothing: so it has no rivals.
+fn is_alone(one: &Contest) -> bool
+    ensures { result ≡ true → (other : Contest) → vie one.now other ≡ false }
 {
-    vie(one, other) && other.since < one.since
+    matches!(one, Contest::Nothing)
 }
 
-/// The process vies for no core, and is in no queue: so it has no rivals.
-fn is_alone(one: &Rival) -> bool
-    ensures { result ≡ true → (other : Rival) → vie one.now other ≡ false }
+/// The process of the first record is longer in its queue.
+fn is_older(fields: &Record, others: &Record) -> bool
+    ensures { result ≡ is_older fields.now others.now }
 {
-    one.core.is_none() && one.queue.is_none()
+    fields.since < others.since
 }
 
-/// The number of these rivals that have older stamps.
-fn older_rivals(rivals: &[Rival], one: &Rival) -> u64
-    requires { length rivals.now ≤ MOST_PROCESSES }
-    ensures value { result ≡ count_by (is_older_rival one.now) rivals.now }
-    ensures range { result ≤ length rivals.now }
+/// Puts what each process vies for.
+fn put_contests(store: &PlainStore, contests: &mut [Contest; MOST_PROCESSES])
+    ensures { AreContests store.now contests.new (length store.now.records) }
 {
-    if is_alone(one) {
+    let mode = store.mode();
+    for place in 0..store.process_count() {
+        contests[place] = contest_of(mode, store.record(ProcessId::at(place as u8)));
+    }
+}
+
+/// The number of processes before this place that are older rivals of the one there, which is
+/// counted as an older rival of the others that vie with it.
+fn older_rivals(
+    store: &PlainStore,
+    contests: &[Contest; MOST_PROCESSES],
+    ranks: &mut [u64; MOST_PROCESSES],
+    place: usize,
+) -> u64
+    requires known { place < length store.now.records }
+    requires few { length store.now.records ≤ MOST_PROCESSES }
+    requires contests { AreContests store.now contests.now (length store.now.records) }
+    requires ranks { AreCounted store.now ranks.old place place }
+    ensures value { result ≡ older_before store.now place place }
+    ensures ranks { AreCounted store.now ranks.new place (place + 1) }
+{
+    let one = contests[place];
+    if is_alone(&one) {
         return 0;
     }
+    let fields = store.record(ProcessId::at(place as u8));
     let mut older = 0;
-    for other in rivals {
-        if is_older_rival(one, other) {
-            older += 1;
+    for other in 0..place {
+        if vie(&one, &contests[other]) {
+            let others = store.record(ProcessId::at(other as u8));
+            if is_older(others, fields) {
+                older += 1;
+            } else if is_older(fields, others) {
+                ranks[other] += 1;
+            }
         }
     }
     older
 }
 
-/// Puts each process among its rivals.
-fn put_rivals(store: &PlainStore, rivals: &mut [Rival; MOST_PROCESSES])
-    ensures { AreRivals store.now rivals.new (length store.now.records) }
+/// Puts the ranks of all processes: of each one the number of rivals with older stamps.
+pub(crate) fn put_ranks(store: &PlainStore, ranks: &mut [u64; MOST_PROCESSES])
+    ensures { AreRanks store.now ranks.new }
 {
-    let mode = store.mode();
+    let mut contests = [Contest::Nothing; MOST_PROCESSES];
+    put_contests(store, &mut contests);
     for place in 0..store.process_count() {
-        rivals[place] = rival_of(mode, store.record(ProcessId::at(place as u8)));
+        ranks[place] = older_rivals(store, &contests, ranks, place);
     }
-}
-
-/// The ranks of all processes: of each one the number of rivals with older stamps.
-pub(crate) fn ranks(store: &PlainStore) -> [u64; MOST_PROCESSES]
-    ensures { AreRanks store.now result }
-{
-    let mut rivals = [NO_RIVAL; MOST_PROCESSES];
-    put_rivals(store, &mut rivals);
-    let mut ranks = [0; MOST_PROCESSES];
-    let count = store.process_count();
-    for place in 0..count {
-        ranks[place] = older_rivals(&rivals[..count], &rivals[place]);
-    }
-    ranks
 }
 
 /// The process waits for its first release since its start.
@@ -181,8 +176,8 @@ pub(crate) fn oldest_age(store: &PlainStore) -> u64
 }
 
 /// The instant, this many ticks earlier.
-fn earlier(ticks: u64, instant: Option<u64>) -> Option<u64>
-    ensures { result ≡ earlier ticks instant }
+fn earlier(ticks: u64, instant: &Option<u64>) -> Option<u64>
+    ensures { result ≡ earlier ticks instant.now }
 {
     match instant {
         Some(instant) => Some(instant.saturating_sub(ticks)),
@@ -219,8 +214,8 @@ fn moments_of(store: &PlainStore, fields: &Record, since: i64, now: u64) -> Mome
     let ticks = store.now() - now;
     Moments {
         since,
-        due: earlier(ticks, fields.due),
-        deadline: earlier(ticks, fields.deadline),
+        due: earlier(ticks, &fields.due),
+        deadline: earlier(ticks, &fields.deadline),
         release: now - age(store.now(), fields),
     }
 }
@@ -296,7 +291,9 @@ pub(crate) fn make_canonical(store: &mut PlainStore)
     requires { IsFit store.old }
     ensures { store.new ≡ canonical_roster store.old }
 {
-    let (ranks, now) = (ranks(store), oldest_age(store));
+    let mut ranks = [0; MOST_PROCESSES];
+    put_ranks(store, &mut ranks);
+    let now = oldest_age(store);
     put_forms(store, &ranks, now);
     let young = next_stamp(store.process_count());
     store.set_clock(store.mode(), now, young, 0);

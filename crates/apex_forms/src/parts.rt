@@ -29,13 +29,24 @@ pub(crate) trait Stored: Drop {
         ensures { self.new ≡ restored self.old words.now };
 }
 
+/// These words are as those others from now on. They are set one by one, so that words which were
+/// made for this need no memory of their own.
+fn set_all(words: &mut [u64], others: &[u64])
+    requires { length words.old ≡ length others.now }
+    ensures { words.new ≡ others.now }
+{
+    for place in 0..words.len() {
+        words[place] = others[place];
+    }
+}
+
 /// Puts these words at a place, and answers the place behind them.
 pub(crate) fn put(words: &mut [u64], at: usize, part: &[u64]) -> usize
     requires { at + length part.now ≤ length words.old }
     ensures { IsPut part.now at words.old result words.new }
 {
     let end = at + part.len();
-    words[at..end].copy_from_slice(part);
+    set_all(&mut words[at..end], part);
     end
 }
 

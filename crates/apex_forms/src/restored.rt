@@ -23,7 +23,7 @@ use apex_machine::{OpenWork, Work};
 use apex_store::{PlainStore, Store};
 use apex_types::{CoreId, MOST_CORES, ProcessId, Span};
 
-const CORES: usize = MOST_CORES as usize;
+pub(crate) const CORES: usize = MOST_CORES as usize;
 
 /// The open work of these words of a core.
 fn open_in(words: &[u64]) -> Option<OpenWork>
@@ -45,7 +45,7 @@ fn open_in(words: &[u64]) -> Option<OpenWork>
 }
 
 /// The open work of each core.
-pub(crate) fn works_in(cores: u8, words: &[u64]) -> Works
+fn works_in(cores: u8, words: &[u64]) -> Works
     requires few { cores ≤ MOST_CORES }
     requires words { AreCoreWords cores words.now }
     ensures { (core : ℕ) → work_at result core ≡ works_in cores words.now core }
@@ -59,7 +59,7 @@ pub(crate) fn works_in(cores: u8, words: &[u64]) -> Works
 }
 
 /// What the pace counts of each core.
-pub(crate) fn counts_in(cores: u8, words: &[u64]) -> Counts
+fn counts_in(cores: u8, words: &[u64]) -> Counts
     requires few { cores ≤ MOST_CORES }
     requires words { AreCoreWords cores words.now }
     ensures turns { (core : ℕ) → count_at result.turns core ≡ turns_in cores words.now core }

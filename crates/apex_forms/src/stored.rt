@@ -8,7 +8,7 @@ ghost use Rattle.apex_forms.specs.Stored.{FitsWords, core_words, cores_words, co
 
 use crate::canonical::{kept_turns, kept_worked};
 use crate::codes::mode_word;
-use crate::forms::{canonical_moments, oldest_age, ranks};
+use crate::forms::{canonical_moments, oldest_age, put_ranks};
 use crate::objects::{
     BLACKBOARD_WORDS, BUFFER_WORDS, EVENT_FLAG_WORDS, MUTEX_WORDS, SEMAPHORE_WORDS,
 };
@@ -154,7 +154,9 @@ fn put_processes(paced: &PacedSituation, now: u64, words: &mut [u64], at: usize)
 {
     let processes = paced.situation.objects().processes.as_slice();
     let store = paced.situation.store();
-    put_records(processes, store, &ranks(store), now, words, at)
+    let mut ranks = [0; MOST_PROCESSES];
+    put_ranks(store, &mut ranks);
+    put_records(processes, store, &ranks, now, words, at)
 }
 
 /// Puts the words of the other objects at a place.

@@ -8,9 +8,10 @@ use Rattle.apex_explore.specs.Parts.{Fit, IsExpansion}
 use Rattle.apex_explore.specs.Systems.{Step}
 use Rattle.apex_explore.specs.declared.desks.Desk.{Desk}
 use Rattle.apex_explore.specs.declared.fronts.Front.{Front}
-use Rattle.apex_explore.specs.declared.parts.Expansion.{Expansion}
+use Rattle.apex_states.specs.declared.expansions.Expansion.{Expansion}
 use Rattle.apex_explore.proofs.Parting.{Expanded-later}
-use Rattle.apex_jobs.specs.Rounds.{AreExpansions, AreGathered, AreLaidOut, IsWide}
+use Rattle.apex_jobs.specs.Rounds.{AreExpansions, AreGathered, AreLaidOut}
+use Rattle.apex_states.specs.Expansions.{IsWide}
 use Rattle.apex_states.specs.Batches.{Copies}
 use Rattle.apex_states.specs.Lists.{AllAre, IsFront}
 use Rattle.apex_states.specs.States.{Reached}

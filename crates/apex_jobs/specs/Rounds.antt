@@ -6,7 +6,7 @@ use Rattle.apex_explore.specs.Parts.{Expanded, IsPast}
 use Rattle.apex_explore.specs.Searches.{IsOver, IsUnderWay, room_of}
 use Rattle.apex_explore.specs.Systems.{Step}
 use Rattle.apex_explore.specs.declared.desks.Desk.{Desk}
-use Rattle.apex_explore.specs.declared.parts.Expansion.{Expansion}
+use Rattle.apex_states.specs.declared.expansions.Expansion.{Expansion}
 use Rattle.apex_explore.specs.declared.search.Stop.{Stop}
 use Rattle.apex_explore.specs.declared.searches.Search.{Search}
 use Rattle.apex_states.specs.Batches.{IsCopied}
@@ -50,10 +50,6 @@ pub record AreExpansions (step : List ℕ → ℕ → Step (List ℕ)) (is_state
   pub starts : AreStarts from limit (length expansions) start
   pub each : (place : ℕ) (expansion : Expansion) → slice_get expansions place ≡ Some expansion
       → Expanded step is_state reached (start place) (start (place + 1)) expansion
-
--- the states of the expansion have this many words
-abbrev pub IsWide : ℕ → Expansion → Type 0
-IsWide word_count expansion = expansion.finds.width ≡ word_count
 
 -- the expansions are those that were made at the desks
 pub record AreGathered {W : Type 0} (desks : List (Desk W)) (expansions : List Expansion)

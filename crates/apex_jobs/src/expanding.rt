@@ -2,12 +2,14 @@
 ghost use Rattle.std.specs.Prelude.{◌≡◌, ℕ, ◌<◌, length, IfOk};
 ghost use Rattle.apex_explore.specs.Desks.{IsDesk, IsMade, IsReady};
 ghost use Rattle.apex_explore.specs.Systems.{step_within};
-ghost use Rattle.apex_jobs.specs.Rounds.{AreExpansions, AreGathered, AreLaidOut, IsWide};
+ghost use Rattle.apex_jobs.specs.Rounds.{AreExpansions, AreGathered, AreLaidOut};
+ghost use Rattle.apex_states.specs.Expansions.{IsWide};
 ghost use Rattle.apex_states.specs.Batches.{Copies};
 ghost use Rattle.apex_states.specs.Lists.{AllAre};
 ghost use Rattle.apex_states.specs.States.{Reached};
 
-use apex_explore::{Desk, Expansion, System};
+use apex_explore::{Desk, System};
+use apex_states::Expansion;
 use std::alloc::{AllocError, Global};
 use std::marker::{Send, Sync};
 use std::thread::{Threads, for_each_mut};

@@ -10,7 +10,8 @@ ghost use Rattle.apex_states.specs.Lists.{AllAre};
 ghost use Rattle.apex_states.specs.States.{Reached};
 
 use crate::expanding::expand_all;
-use apex_explore::{Desk, Expansion, Search, Stop, System};
+use apex_explore::{Desk, Search, Stop, System};
+use apex_states::Expansion;
 use std::alloc::{AllocError, Global};
 use std::marker::{Send, Sync};
 use std::thread::{Threads, join_mut};

@@ -1,7 +1,8 @@
 //! The opening of a partition that threads will share.
-ghost use Rattle.std.specs.Prelude.{◌≡◌, ◌≤◌, IfOk, None, length, vec_len};
+ghost use Rattle.std.specs.Prelude.{◌≡◌, ◌≤◌, [], IfOk, None, length, vec_len};
 ghost use Rattle.apex_types.specs.declared.limits.TheConstants.{MOST_CORES};
 ghost use Rattle.apex_types.specs.declared.entries.Who.TheVariants.{Ticker as ToTicker};
+ghost use Rattle.apex_board.specs.Boards.{HasPublished};
 ghost use Rattle.apex_receipts.specs.Receipts.{unspoken, unspoken_cores, IsNamedAfter};
 ghost use Rattle.apex_partition.specs.Seats.{IsSeated};
 
@@ -9,9 +10,9 @@ use crate::partitions::Partition;
 use crate::published::Published;
 use crate::seats::{Seat, Ticker};
 use crate::shared::Shared;
-use apex_board::{Board, NewBoard};
+use apex_board::{Board, NewBoard, Publisher};
 use apex_configs::Table;
-use apex_receipts::{Naming, Opened, Voice};
+use apex_receipts::{Naming, Opened, Scribe, Voice};
 use apex_types::CoreId;
 use std::alloc::{AllocError, Global};
 
@@ -27,6 +28,39 @@ fn seated<P: Naming>(alloc: Global, voices: Vec<Voice<P>>) -> Result<Vec<Seat<P>
         seats.push(Seat::new(core, voice))?;
     }
     Ok(seats)
+}
+
+/// The scribe of the book that was opened, a seat for each core, in the order of their numbers, and
+/// the ticker.
+fn seats_of<P: Naming>(
+    alloc: Global,
+    opened: Opened,
+) -> Result<(Scribe<P>, Vec<Seat<P>>, Ticker<P>), AllocError>
+    requires named { IsNamedAfter P.book P.scribe P.voice opened }
+    requires cores { length opened.cores ≡ P.table.cores }
+    requires few_cores { P.table.cores ≤ MOST_CORES }
+    ensures scribe { IfOk result (λ all. all.0 ≡ []) }
+    ensures seats { IfOk result (λ all. all.1.items ≡ unspoken_cores P.table.cores) }
+    ensures ticker { IfOk result (λ all. all.2 ≡ unspoken ToTicker) }
+{
+    let (scribe, voices, voice) = opened.into_parts::<P>(alloc)?;
+    let seats = seated(alloc, voices)?;
+    Ok((scribe, seats, Ticker::new(voice)))
+}
+
+/// A partition before any event, which threads will share.
+fn shared<P: Naming>(
+    alloc: Global,
+    table: Table,
+    scribe: Scribe<P>,
+    publisher: Option<Publisher<P>>,
+) -> Result<Shared<P>, AllocError>
+    requires table { P.table ≡ table }
+    requires scribe { scribe ≡ [] }
+    requires publisher { HasPublished P.cell [] publisher }
+{
+    let partition = Partition::boot(alloc, table)?;
+    Ok(Shared::new(Published::new(partition, scribe, publisher)))
 }
 
 /// A partition before any event, a seat for each core, in the order of their numbers, the ticker,
@@ -53,12 +87,10 @@ pub fn open_read<P: Naming>(
 {
     table.lawful();
     let cores = usize::from(table.cores());
-    let partition = Partition::boot(alloc, table)?;
-    let (scribe, voices, voice) = opened.into_parts::<P>(alloc)?;
+    let (scribe, seats, ticker) = seats_of::<P>(alloc, opened)?;
     let (publisher, board) = board.into_parts::<P>(alloc, cores)?;
-    let seats = seated(alloc, voices)?;
-    let shared = Shared::new(Published::new(partition, scribe, publisher));
-    Ok((shared, seats, Ticker::new(voice), board))
+    let shared = shared(alloc, table, scribe, publisher)?;
+    Ok((shared, seats, ticker, board))
 }
 
 /// A partition as `open_read` opens it, without readers: it publishes nothing.

@@ -14,7 +14,7 @@ use Rattle.apex_forms.specs.Laws.{WordsAreExact}
 use Rattle.apex_forms.specs.Restored.{IsOfTable, IsStored, paced_from}
 use Rattle.apex_forms.specs.Formed.{FormsAreReady, IsForm, IsFormed}
 use Rattle.apex_choices.specs.Choices.{IsChosen, event_of}
-use Rattle.apex_search.specs.Steps.{IsIn, IsWorkplace, Searched, search_step, step_by}
+use Rattle.apex_search.specs.Steps.{IsCopied, IsIn, IsWorkplace, Searched, search_step, step_by}
 use Rattle.apex_machine.specs.Events.{IsWithin}
 use Rattle.apex_search.specs.Terms.{Event, Pace}
 use Rattle.apex_search.specs.declared.systems.Workplace.{Workplace}
@@ -38,6 +38,14 @@ module _ (pace : Pace) (is_pace : IsPace pace) (few : pace.turns < 2 ^ 32) (tabl
 -- what is said of the situation, if there is one
 pub of_here : (o : Option StoredPaced) (here : StoredPaced) (Is : StoredPaced → Type 0) → o ≡ Some here → IfSome o Is → Is here
 of_here o here Is is some = subst (λ (x : Option StoredPaced). IfSome x Is) is some
+
+-- what was copied is the situation of these words
+pub same_made : (table : Table) (words : List ℕ) (workplace : Workplace) (paced : StoredPaced) → IsCopied table workplace words
+    → workplace.made ≡ Some paced → IsSamePaced (paced_in paced) (paced_from table words)
+same_made table words workplace paced copied is =
+    of_here workplace.made paced (λ (p : StoredPaced). IsSamePaced (paced_in p) (paced_from table words)) is
+    (subst (λ (x : Option StoredPaced). IfSome x (λ (p : StoredPaced). IsSamePaced (paced_in p) (paced_from table words)))
+    (sym copied.is_made) copied.same)
 
 -- the event of a choice in one situation of these words is chosen in another
 pub copied_chosen : (pace : Pace) (table : Table) (words : List ℕ) (here copied : Paced) (choice : ℕ) (event : Event)
@@ -77,19 +85,5 @@ entered table before after words was inside made blank of = record {
   is_made = made ∙ was.is_made;
   here_of = of (paced_in inside.here) inside.same;
   made_of = was.made_of;
-  blank = ap (λ (o : ProcessObject). o.created) blank ∙ was.blank;
-}
-
--- the workplace, once an event is made
-pub made_anew : (table : Table) (before after : Workplace) (made : StoredPaced) → IsWorkplace table before
-    → after.here ≡ before.here → after.made ≡ Some made → IsOfTable table (paced_in made).situation
-    → after.blank ≡ before.blank → IsWorkplace table after
-made_anew table before after made was here is_made of blank = record {
-  here = was.here;
-  made = made;
-  is_here = here ∙ was.is_here;
-  is_made = is_made;
-  here_of = was.here_of;
-  made_of = of;
   blank = ap (λ (o : ProcessObject). o.created) blank ∙ was.blank;
 }

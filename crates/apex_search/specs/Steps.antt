@@ -61,6 +61,12 @@ pub record IsIn (table : Table) (workplace : Workplace) (words : List ℕ) : Typ
   pub is_here : workplace.here ≡ Some here
   pub same : IsSamePaced (paced_in here) (paced_from table words)
 
+-- what a choice makes is made of the situation of these words
+pub record IsCopied (table : Table) (workplace : Workplace) (words : List ℕ) : Type 0 where
+  pub made : StoredPaced
+  pub is_made : workplace.made ≡ Some made
+  pub same : IsSamePaced (paced_in made) (paced_from table words)
+
 -- the choices in the workplace are made in a situation that is not too late
 pub record IsHereInTime (workplace : Workplace) : Type 0 where
   pub here : StoredPaced

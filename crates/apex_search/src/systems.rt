@@ -9,7 +9,7 @@ ghost use Rattle.apex_search.specs.Census.{asking};
 ghost use Rattle.apex_choices.specs.Counts.{IsSamePaced, paced_in};
 ghost use Rattle.apex_forms.specs.Laws.{FormsReach};
 ghost use Rattle.apex_forms.specs.Restored.{IsStored, paced_from};
-ghost use Rattle.apex_search.specs.Steps.{IsHereInTime, IsIn, IsWorkplace};
+ghost use Rattle.apex_search.specs.Steps.{IsCopied, IsHereInTime, IsIn, IsWorkplace};
 ghost use Rattle.apex_choices.specs.Choices.{event_of};
 ghost use Rattle.apex_forms.specs.Formed.{form_words};
 ghost use Rattle.apex_forms.specs.Stored.{word_count};
@@ -120,22 +120,21 @@ impl Workplace {
         }
     }
 
-    /// The situation of these words, in which the choices are made, in the memory of what the last
-    /// choice made of it.
-    fn copied(&mut self, table: &Table, words: &[u64]) -> PacedSituation
+    /// The situation of these words, in which the choices are made, is in the memory of what the
+    /// last choice made of it, too, so that the next one can be made there.
+    fn copy(&mut self, table: &Table, words: &[u64])
         requires workplace { IsWorkplace table.now self.old }
         requires words { IsStored table.now words.now }
         requires inside { IsIn table.now self.old words.now }
-        ensures copied { IsSamePaced (paced_in result) (paced_from table.now words.now) }
+        ensures copied { IsCopied table.now self.new words.now }
         ensures here { self.new.here ≡ self.old.here }
         ensures blank { self.new.blank ≡ self.old.blank }
     {
-        let Some(made) = self.made.take() else {
-            unreachable!()
-        };
-        match &self.here {
-            Some(here) => restore_known(made, table, here, words),
-            None => unreachable!(),
+        match (self.made.take(), &self.here) {
+            (Some(made), Some(here)) => {
+                self.made = Some(restore_known(made, table, here, words));
+            }
+            _ => unreachable!(),
         }
     }
 }
@@ -363,18 +362,18 @@ impl System for TableSystem {
         let Some(event) = workplace.event(self.pace, &self.table, choice) else {
             return Taken::Refused;
         };
-        let mut paced = workplace.copied(&self.table, state);
-        let notices = &mut workplace.notices;
-        let taken = step(
-            &mut paced,
+        workplace.copy(&self.table, state);
+        let Some(paced) = &mut workplace.made else {
+            unreachable!()
+        };
+        step(
+            paced,
             self.pace,
             &self.table,
             &self.question,
             event,
-            notices,
+            &mut workplace.notices,
             next,
-        );
-        workplace.made = Some(paced);
-        taken
+        )
     }
 }

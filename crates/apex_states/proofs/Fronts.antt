@@ -1,5 +1,5 @@
 -- Lists that go on others.
-use Rattle.std.proofs.Common.{◌≡◌, ℕ, zero, suc, ◌<◌, List, [], ◌∷◌, ◌++◌, length, length-append, Some, sym, ◌∙◌, arith, get_or}
+use Rattle.std.proofs.Common.{◌≡◌, ℕ, zero, suc, ◌+◌, ◌<◌, ◌⊎◌, List, [], ◌∷◌, ◌++◌, length, length-append, Some, sym, ap, ◌∙◌, arith, get_or, inl, inr}
 use Rattle.std.proofs.lemmas.Option.{slice_get-get_or}
 use Rattle.std.specs.List.{slice_get}
 use Rattle.apex_states.specs.Lists.{IsFront}
@@ -24,3 +24,32 @@ at_old_place old new place x front within is =
     let was = slice_get-get_or old place x within in
     let same : Some (get_or old place x) ≡ Some x = sym (front.same place (get_or old place x) was) ∙ is in
     was ∙ same
+
+-- Lists that are put behind others.
+
+pub IsFront-append : {X : Type 0} (xs ys : List X) → IsFront xs (xs ++ ys)
+IsFront-append xs ys = record { same = same xs; longer = simp length-append (omega arith) }
+  where
+    same : (xs : List _) (i : ℕ) (x : _) → slice_get xs i ≡ Some x → slice_get (xs ++ ys) i ≡ Some x
+    same [] i x h = cc
+    same (z ∷ zs) zero x h = h
+    same (z ∷ zs) (suc i) x h = same zs i x h
+
+pub get_right : {X : Type 0} (xs ys : List X) (at : ℕ) (y : X) → slice_get ys at ≡ Some y → slice_get (xs ++ ys) (length xs + at) ≡ Some y
+get_right [] ys at y is =
+    let e : 0 + at ≡ at = omega arith in
+    ap (slice_get ys) e ∙ is
+get_right (x ∷ xs) ys at y is =
+    let e : suc (length xs) + at ≡ suc (length xs + at) = omega arith in
+    ap (slice_get (x ∷ xs ++ ys)) e ∙ get_right xs ys at y is
+
+-- a member is one of the first list, or one of the other
+pub get_append : {X : Type 0} (xs ys : List X) (place : ℕ) (z : X) → slice_get (xs ++ ys) place ≡ Some z
+    → (slice_get xs place ≡ Some z) ⊎ ((at : ℕ) × (place ≡ length xs + at) × (slice_get ys at ≡ Some z))
+get_append [] ys place z is = inr (place, omega arith, is)
+get_append (x ∷ xs) ys zero z is = inl is
+get_append (x ∷ xs) ys (suc place) z is =
+    elim (get_append xs ys place z is) [
+      | inl before ↦ inl before
+      | inr (at, e, there) ↦ inr (at, omega (arith, e), there)
+    ]

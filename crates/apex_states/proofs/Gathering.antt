@@ -10,7 +10,7 @@ use Rattle.apex_states.specs.States.{IsKept, Reached, with_state}
 use Rattle.apex_states.specs.declared.states.Origin.{Origin}
 use Rattle.apex_states.proofs.Fronts.{IsFront-push, IsFront-refl, IsFront-trans}
 
-get_last : {X : Type 0} (xs : List X) (y : X) → slice_get (xs ++ y ∷ []) (length xs) ≡ Some y
+pub get_last : {X : Type 0} (xs : List X) (y : X) → slice_get (xs ++ y ∷ []) (length xs) ≡ Some y
 get_last [] y = refl
 get_last (x ∷ xs) y = get_last xs y
 

@@ -1,15 +1,20 @@
 -- States that were found, whose halves are numbered one after the other.
-use Rattle.std.proofs.Common.{◌≡◌, ℕ, ◌+◌, ◌/◌, ◌%◌, ◌^◌, List, [], ◌∷◌, ◌++◌, length, length-append, Some, sym, ap, ◌∙◌, subst, inl, inr, arith}
-use Rattle.std.proofs.lemmas.Option.{same_Some}
+use Rattle.std.proofs.Common.{◌≡◌, ℕ, ◌+◌, ◌/◌, ◌%◌, ◌^◌, ◌<◌, List, [], ◌∷◌, ◌++◌, length, length-append, Some, refl, sym, ap, ◌∙◌, subst, inl, inr, arith}
+use Rattle.std.proofs.lemmas.List.{flat_map_more}
+use Rattle.std.proofs.lemmas.Option.{same_Some, slice_get_within}
 use Rattle.std.specs.List.{slice_get}
+use Rattle.apex_states.specs.declared.expansions.Expansion.{Expansion}
 use Rattle.apex_states.specs.declared.halves.Half.{Half}
 use Rattle.apex_states.specs.declared.halves.Side.{Side}
 use Rattle.apex_states.specs.declared.halves.Side.TheVariants.{Left, Right}
+use Rattle.apex_states.specs.Expansions.{found_in, IsWide}
 use Rattle.apex_states.specs.Finds.{Found}
 use Rattle.apex_states.specs.Halves.{number_on, part_of, IsHalf, IsNumber, StillHas}
-use Rattle.apex_states.specs.Keeping.{AreNumbered, ArePaired, HasHalf}
+use Rattle.apex_states.specs.Keeping.{AreAllNumbered, AreNumbered, ArePaired, CanNumber, HasHalf}
 use Rattle.apex_states.specs.Lists.{AllAre}
-use Rattle.apex_states.specs.States.{IsRoot}
+use Rattle.apex_states.specs.States.{IsRoot, Reached}
+use Rattle.apex_states.proofs.Fronts.{at_old_place, get_append, IsFront-append, IsFront-push}
+use Rattle.apex_states.proofs.Gathering.{get_last}
 use Rattle.apex_states.proofs.Halving.{parts_whole, IsNumber-held, StillHas-trans}
 use Rattle.apex_states.proofs.Probing.{last_or_before}
 use Rattle.apex_states.proofs.Storing.{IsRoot-numbered}
@@ -67,6 +72,56 @@ IsNumbering-next found old half restored new numbers place number k here long fi
             subst (λ n. Numbered n l) same (subst (Numbered number) l_is last)
       ];
     }
+
+-- Expansions, one after the other.
+
+-- what can be numbered still can be, once some is
+pub CanNumber-held : (old new : Half) (roots : Reached) (found : Found) → StillHas old new → IsHalf new → CanNumber old roots found → CanNumber new roots found
+CanNumber-held old new roots found has is_half can = record {
+  is_half = is_half;
+  valid = λ place row there.
+      let was = can.valid place row there in
+      let Number : Side → Type 0 = λ side. IsNumber new (number_on side was.pair) was.words in
+      record { pair = was.pair; words = was.words; row_is = was.row_is; number = subst Number (sym has.side) (IsNumber-held old new (number_on old.side was.pair) was.words has was.number) };
+  wide = omega (arith, has.width, can.wide);
+  parents = can.parents;
+}
+
+-- numbers that are put behind others
+AreNumbered-append : (half new : Half) (width : ℕ) (found other both : Found) (numbers more : List ℕ) → StillHas half new
+    → found.width ≡ width → other.width ≡ width → both.width ≡ width → both.states ≡ found.states ++ other.states
+    → AreNumbered half found numbers → AreNumbered new other more → AreNumbered new both (numbers ++ more)
+AreNumbered-append half new width found other both numbers more has wide wide' wide'' states one two = record {
+  count = omega (arith, ap length states, length-append found.states other.states, length-append numbers more, one.count, two.count);
+  each = λ place number k there is.
+      let k_is : slice_get (found.states ++ other.states) place ≡ Some k = ap (λ ks. slice_get ks place) (sym states) ∙ is in
+      elim (get_append numbers more place number there) [
+        | inl before ↦
+            let short : place < length found.states = omega (arith, slice_get_within numbers place number before, one.count) in
+            let was = one.each place number k before (at_old_place found.states (found.states ++ other.states) place k (IsFront-append found.states other.states) short k_is) in
+            let held = IsNumber-held half new number (part_of half.side half.width k) has was.1 in
+            (was.0 ∙ (wide ∙ sym wide''), number_still half new new number k has.side has.width held)
+        | inr (at, e, here) ↦
+            elim (get_append found.states other.states place k k_is) [
+              | inl before ↦ absurd (omega (arith, slice_get_within found.states place k before, e, one.count))
+              | inr (at', e', here') ↦
+                  let same : at' ≡ at = omega (arith, e, e', one.count) in
+                  let was = two.each at number k here (ap (slice_get other.states) (sym same) ∙ here') in
+                  (was.0 ∙ (wide' ∙ sym wide''), was.1)
+            ]
+      ];
+}
+
+-- one more expansion is numbered
+pub AreAllNumbered-next : (half new : Half) (expansions : List Expansion) (expansion : Expansion) (numbers more : List ℕ) → StillHas half new
+    → AreAllNumbered half expansions numbers → AreNumbered new expansion.finds more → AreAllNumbered new (expansions ++ expansion ∷ []) (numbers ++ more)
+AreAllNumbered-next half new expansions expansion numbers more has one other = record {
+  whole = λ width wide.
+      let before : AllAre (IsWide width) expansions = λ place e is. wide place e ((IsFront-push expansions expansion).same place e is) in
+      let last : IsWide width expansion = wide (length expansions) expansion (get_last expansions expansion) in
+      let states = sym (flat_map_more (λ (e : Expansion). e.finds.states) [] expansions expansion) in
+      AreNumbered-append half new width (found_in width expansions) expansion.finds (found_in width (expansions ++ expansion ∷ [])) numbers more has refl last refl states (one.whole width before) other;
+}
 
 -- Numbers that are paired.
 

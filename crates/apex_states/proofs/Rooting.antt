@@ -5,16 +5,46 @@ use Rattle.std.proofs.lemmas.List.{length-map}
 use Rattle.std.proofs.lemmas.Option.{same_Some, slice_get-get_or, slice_get-map, slice_get_within}
 use Rattle.std.specs.List.{slice_get}
 use Rattle.std.specs.Option.{option_map}
+use Rattle.apex_states.specs.declared.expansions.Expansion.{Expansion}
 use Rattle.apex_states.specs.declared.halves.Half.{Half}
 use Rattle.apex_states.specs.declared.states.Origin.{Origin}
+use Rattle.apex_states.specs.Expansions.{found_in, states_of, ComesFrom, IsWide}
 use Rattle.apex_states.specs.Finds.{AreKept, AreThere, Found, GoesOnWith, IsFind}
 use Rattle.apex_states.specs.Halves.{IsHalf, StillHas}
 use Rattle.apex_states.specs.Index.{IsKnown}
-use Rattle.apex_states.specs.Keeping.{roots_found, AreNumbered, ArePaired}
+use Rattle.apex_states.specs.Lists.{AllAre}
+use Rattle.apex_states.specs.Keeping.{roots_found, AreAllNumbered, ArePaired, CanNumberAll}
 use Rattle.apex_states.specs.States.{seen, state_of, states_in, IsRoot, IsStored, Reached}
 use Rattle.apex_states.proofs.Fronts.{at_old_place}
 use Rattle.apex_states.proofs.Numbering.{roots_numbered}
-use Rattle.apex_states.proofs.Storing.{root_at, same_root, seen_held, state_at, AreRoots, IsStored-held}
+use Rattle.apex_states.proofs.Storing.{left_rows, right_rows, root_at, same_root, seen_held, state_at, AreRoots, IsStored-held}
+
+-- the halves of the states that were found in expansions can be numbered
+pub can_number_left : (roots : Reached) (left right : Half) (expansions : List Expansion) → IsStored roots left right → AllAre (ComesFrom (seen roots left right)) expansions → CanNumberAll left roots expansions
+can_number_left roots left right expansions stored come = record {
+  is_half = stored.left_half;
+  each = λ place expansion is.
+      let from = come place expansion is in
+      record {
+        is_half = stored.left_half;
+        valid = left_rows roots left right stored;
+        wide = omega (arith, from.width);
+        parents = λ at origin there. omega (arith, from.parents at origin there, length-map roots.states (state_of left right));
+      };
+}
+
+pub can_number_right : (roots : Reached) (left right : Half) (expansions : List Expansion) → IsStored roots left right → AllAre (ComesFrom (seen roots left right)) expansions → CanNumberAll right roots expansions
+can_number_right roots left right expansions stored come = record {
+  is_half = stored.right_half;
+  each = λ place expansion is.
+      let from = come place expansion is in
+      record {
+        is_half = stored.right_half;
+        valid = right_rows roots left right stored;
+        wide = omega (arith, from.width);
+        parents = λ at origin there. omega (arith, from.parents at origin there, length-map roots.states (state_of left right));
+      };
+}
 
 single_back : (pairs : List ℕ) (place : ℕ) (row : List ℕ) → slice_get (map (λ pair. pair ∷ []) pairs) place ≡ Some row → (pair : ℕ) × (slice_get pairs place ≡ Some pair) × (row ≡ pair ∷ [])
 single_back [] place row is = cc
@@ -22,8 +52,8 @@ single_back (pair ∷ pairs) zero row is = (pair, refl, sym (same_Some (pair ∷
 single_back (pair ∷ pairs) (suc place) row is = single_back pairs place row is
 
 -- the root of a state that was found
-pub root_found : (pairs : List ℕ) (found : Found) (place : ℕ) (origin : Origin) → place < length pairs → slice_get found.origins place ≡ Some origin → IsFind (roots_found pairs found) place (get_or pairs place 0 ∷ []) origin
-root_found pairs found place origin short origin_is = record {
+pub root_found : (pairs : List ℕ) (origins : List Origin) (place : ℕ) (origin : Origin) → place < length pairs → slice_get origins place ≡ Some origin → IsFind (roots_found pairs origins) place (get_or pairs place 0 ∷ []) origin
+root_found pairs origins place origin short origin_is = record {
   state = slice_get-map (λ n. n ∷ []) pairs place ∙ ap (option_map (λ n. n ∷ [])) (slice_get-get_or pairs place 0 short);
   origin = origin_is;
 }
@@ -52,7 +82,7 @@ module _ (roots roots' : Reached) (left right left' right' : Half) (found : Foun
       let pair = get_or pairs place 0 in
       (pair ∷ [], slice_get-map (λ n. n ∷ []) pairs place ∙ ap (option_map (λ n. n ∷ [])) there, is_root place pair k there is)
 
-  module _ (goes_on : GoesOnWith (roots_found pairs found) roots roots') where
+  module _ (goes_on : GoesOnWith (roots_found pairs found.origins) roots roots') where
     valid : AreRoots left' right' roots'.states
     valid place row there =
         elim (cases_lt place (length roots.states)) [
@@ -87,7 +117,7 @@ module _ (roots roots' : Reached) (left right left' right' : Half) (found : Foun
               (at, k, from, record { state = k_is; origin = find.origin }, state_at left' right' roots'.states place row k is root, origin_is);
         }
 
-    there_seen : (kept : Bool) → AreThere (roots_found pairs found) roots' kept → AreThere found (seen roots' left' right') kept
+    there_seen : (kept : Bool) → AreThere (roots_found pairs found.origins) roots' kept → AreThere found (seen roots' left' right') kept
     there_seen true there = λ place k is.
         let (row, row_is, root) = row_at place k is in
         let (at, known) = there place row row_is in
@@ -100,21 +130,34 @@ module _ (roots roots' : Reached) (left right left' right' : Half) (found : Foun
         unknown (known.0, there ∙ ap Some e) in
         (place, k, k_is, unknown', length-map roots'.states (state_of left' right') ∙ full)
 
-  pub AreKept-seen : (kept : Bool) → AreKept (roots_found pairs found) roots roots' kept → AreKept found (seen roots left right) (seen roots' left' right') kept
+  pub AreKept-seen : (kept : Bool) → AreKept (roots_found pairs found.origins) roots roots' kept → AreKept found (seen roots left right) (seen roots' left' right') kept
   AreKept-seen kept are =
       let Kept : Reached → Type 0 = λ r. AreKept found r (seen roots' left' right') kept in
       subst Kept (seen_held roots left right left' right' stored has has') (record { goes_on = goes_on_seen are.goes_on; there = there_seen are.goes_on kept are.there })
 
--- what came of states that were to be kept, once their halves were numbered and their roots entered
-pub kept_all : (roots roots' : Reached) (left right left' right' : Half) (found : Found) (lefts rights pairs : List ℕ) (kept : Bool)
+-- there are as many numbers of either side as states that were found in expansions
+pub counts_found : (roots : Reached) (left right left' right' : Half) (expansions : List Expansion) (lefts rights : List ℕ)
+    → AllAre (ComesFrom (seen roots left right)) expansions
+    → AreAllNumbered left' expansions lefts → AreAllNumbered right' expansions rights
+    → (length lefts ≡ length (states_of expansions)) × (length rights ≡ length (states_of expansions))
+counts_found roots left right left' right' expansions lefts rights come lefts_are rights_are =
+    let wide : AllAre (IsWide (left.width + right.width)) expansions = λ place expansion is. (come place expansion is).width in
+    ((lefts_are.whole (left.width + right.width) wide).count, (rights_are.whole (left.width + right.width) wide).count)
+
+-- what came of states that were found in expansions, once their halves were numbered and their roots entered
+pub kept_all : (roots roots' : Reached) (left right left' right' : Half) (expansions : List Expansion) (lefts rights pairs : List ℕ) (kept : Bool)
     → IsStored roots left right → StillHas left left' → StillHas right right' → IsHalf left' → IsHalf right'
-    → found.width ≡ left.width + right.width
-    → AreNumbered left' found lefts → AreNumbered right' found rights → ArePaired lefts rights pairs
-    → AreKept (roots_found pairs found) roots roots' kept
-    → IsStored roots' left' right' × AreKept found (seen roots left right) (seen roots' left' right') kept
-kept_all roots roots' left right left' right' found lefts rights pairs kept stored has has' half half' width one other paired are =
+    → AllAre (ComesFrom (seen roots left right)) expansions
+    → AreAllNumbered left' expansions lefts → AreAllNumbered right' expansions rights → ArePaired lefts rights pairs
+    → AreKept (roots_found pairs (found_in (left.width + right.width) expansions).origins) roots roots' kept
+    → IsStored roots' left' right' × AreKept (found_in (left.width + right.width) expansions) (seen roots left right) (seen roots' left' right') kept
+kept_all roots roots' left right left' right' expansions lefts rights pairs kept stored has has' half half' come lefts_are rights_are paired are =
+    let found = found_in (left.width + right.width) expansions in
+    let wide : AllAre (IsWide (left.width + right.width)) expansions = λ place expansion is. (come place expansion is).width in
+    let one = lefts_are.whole (left.width + right.width) wide in
+    let other = rights_are.whole (left.width + right.width) wide in
     let count : length pairs ≡ length found.states = paired.count ∙ one.count in
-    let is_root = roots_numbered left' right' found lefts rights pairs (has.side ∙ stored.left_side) (has'.side ∙ stored.right_side) (omega (arith, width, has.width, has'.width)) one other paired in (
+    let is_root = roots_numbered left' right' found lefts rights pairs (has.side ∙ stored.left_side) (has'.side ∙ stored.right_side) (omega (arith, has.width, has'.width)) one other paired in (
       IsStored-all roots roots' left right left' right' found pairs stored has has' half half' count is_root are.goes_on,
       AreKept-seen roots roots' left right left' right' found pairs stored has has' half half' count is_root kept are,
     )

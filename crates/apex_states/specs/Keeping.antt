@@ -1,7 +1,9 @@
 -- States that were found, of which the halves are numbered.
 use Rattle.std.specs.Prelude.{◌≡◌, ℕ, ◌/◌, ◌%◌, ◌^◌, ◌<◌, ◌≤◌, List, [], ◌∷◌, length, map, slice_get, Some}
+use Rattle.apex_states.specs.declared.expansions.Expansion.{Expansion}
 use Rattle.apex_states.specs.declared.halves.Half.{Half}
 use Rattle.apex_states.specs.declared.states.Origin.{Origin}
+use Rattle.apex_states.specs.Expansions.{found_in, IsWide}
 use Rattle.apex_states.specs.Finds.{Found}
 use Rattle.apex_states.specs.Halves.{IsHalf, IsNumber, number_on, part_of}
 use Rattle.apex_states.specs.Lists.{AllAre}
@@ -22,12 +24,23 @@ pub record CanNumber (half : Half) (roots : Reached) (found : Found) : Type 0 wh
   pub parents : (place : ℕ) (origin : Origin) → slice_get found.origins place ≡ Some origin
       → origin.parent < length roots.states
 
+-- the half of each state that was found in the expansions can be numbered
+pub record CanNumberAll (half : Half) (roots : Reached) (expansions : List Expansion) : Type 0 where
+  pub is_half : IsHalf half
+  pub each : AllAre (λ (expansion : Expansion). CanNumber half roots expansion.finds) expansions
+
 -- the numbers are those of the halves of the states that were found
 pub record AreNumbered (half : Half) (found : Found) (numbers : List ℕ) : Type 0 where
   pub count : length numbers ≡ length found.states
   pub each : (place number : ℕ) (k : List ℕ) → slice_get numbers place ≡ Some number
       → slice_get found.states place ≡ Some k
       → (length k ≡ found.width) × IsNumber half number (part_of half.side half.width k)
+
+-- the numbers are those of the halves of the states that were found in the expansions
+pub record AreAllNumbered (half : Half) (expansions : List Expansion) (numbers : List ℕ)
+    : Type 0 where
+  pub whole : (width : ℕ) → AllAre (IsWide width) expansions
+      → AreNumbered half (found_in width expansions) numbers
 
 -- each pair has the numbers at its place
 pub record ArePaired (lefts rights pairs : List ℕ) : Type 0 where
@@ -37,7 +50,7 @@ pub record ArePaired (lefts rights pairs : List ℕ) : Type 0 where
   pub right : (place pair : ℕ) → slice_get pairs place ≡ Some pair
       → slice_get rights place ≡ Some (pair % 2 ^ 32)
 
--- a pair in place of each state that was found
-abbrev pub roots_found : List ℕ → Found → Found
-roots_found pairs found =
-    record { width = 1; states = map (λ pair. pair ∷ []) pairs; origins = found.origins }
+-- pairs in place of the states that come from these origins
+abbrev pub roots_found : List ℕ → List Origin → Found
+roots_found pairs origins =
+    record { width = 1; states = map (λ pair. pair ∷ []) pairs; origins = origins }

@@ -1,4 +1,5 @@
 pub mod Batches
+pub mod Expansions
 pub mod Finds
 pub mod Halves
 pub mod Index

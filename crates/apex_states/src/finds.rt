@@ -88,6 +88,14 @@ impl Finds {
         self.origins[place]
     }
 
+    /// The origin of each state.
+    pub(crate) fn origins(&self) -> &[Origin]
+        ensures origins { result.now ≡ self.now.origins }
+        ensures paired { length self.now.origins ≡ length self.now.states }
+    {
+        self.origins.as_slice()
+    }
+
     /// The state is the last one for which there was this slot.
     fn is_recent(&self, slot: usize, state: &[u64]) -> bool
         ensures { result ≡ true → IsKnown self.now.states state.now }

@@ -3,6 +3,7 @@
 #![tactic(auto)]
 
 mod batches;
+mod expansions;
 mod finds;
 mod halves;
 mod index;
@@ -16,5 +17,6 @@ mod states;
 mod words;
 
 pub use batches::Batch;
+pub use expansions::Expansion;
 pub use finds::Finds;
 pub use states::{Origin, States};

@@ -89,14 +89,17 @@ impl Nodes {
         ensures held { IsHeld self.old self.new }
         ensures exact { IsExact self.new }
     {
-        if are_same(words, known) {
-            return Ok(number);
-        }
         if depth == 0 {
+            if are_same(words, known) {
+                return Ok(number);
+            }
             return self.parts.number(alloc, words);
         }
         let pair = self.pairs.row(number as usize)[0];
         let word = self.number_halves_like(alloc, depth - 1, words, known, pair)?;
+        if word == pair {
+            return Ok(number);
+        }
         self.pairs.number(alloc, &[word])
     }
 

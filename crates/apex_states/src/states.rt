@@ -1,12 +1,14 @@
 //! The states that a search has reached, and where each of them comes from.
-ghost use Rattle.std.specs.Prelude.{◌≡◌, ℕ, ◌^◌, ◌<◌, ◌≤◌, length, slice_get, Some, IfOk};
+ghost use Rattle.std.specs.Prelude.{◌≡◌, ◌^◌, ◌<◌, ◌≤◌, length, slice_get, Some, IfOk};
+ghost use Rattle.apex_states.specs.Expansions.{found_in, ComesFrom};
 ghost use Rattle.apex_states.specs.Finds.{AreKept};
+ghost use Rattle.apex_states.specs.Lists.{AllAre};
 ghost use Rattle.apex_states.specs.Registers.{AreApart};
 ghost use Rattle.apex_states.specs.States.{no_states, IsKept};
 
-use crate::finds::Finds;
+use crate::expansions::Expansion;
 use crate::halves::{Half, Side};
-use crate::keeping::{enter_all, number_both, pair_all};
+use crate::keeping::{enter_all, gather_origins, number_both, pair_all};
 use crate::pairs::Pair;
 use crate::roots::Roots;
 use std::alloc::{AllocError, Global};
@@ -120,23 +122,23 @@ impl States {
         Ok(self.roots.enter(Pair { left, right }.word(), origin))
     }
 
-    /// Keeps the states that were found, in order, until there is no room for one: false then. Fails only
-    /// for want of memory.
+    /// Keeps the states that were found in the expansions, in order, until there is no room for one: false
+    /// then. A thread numbers the left half of each, if it can be made, and the caller the right one. Fails
+    /// only for want of memory.
     pub fn keep_all<R: Threads>(
         &mut self,
         rt: &R,
         alloc: Global,
-        finds: &Finds,
+        expansions: &[Expansion],
     ) -> Result<bool, AllocError>
         requires paired { length self.old.origins ≡ length self.old.states }
-        requires width { finds.now.width ≡ self.old.width }
-        requires parents { (place : ℕ) (origin : Origin) → slice_get finds.now.origins place ≡ Some origin
-            → origin.parent < length self.old.states }
-        ensures { IfOk result (AreKept finds.now self.old self.new) }
+        requires each { AllAre (ComesFrom self.old) expansions.now }
+        ensures { IfOk result (AreKept (found_in self.old.width expansions.now) self.old self.new) }
     {
+        let origins = gather_origins(alloc, expansions)?;
         let (left, right) = (&mut self.left, &mut self.right);
-        let (lefts, rights) = number_both(rt, alloc, left, right, &self.roots, finds)?;
+        let (lefts, rights) = number_both(rt, alloc, left, right, &self.roots, expansions)?;
         let pairs = pair_all(alloc, lefts.as_slice(), rights.as_slice())?;
-        Ok(enter_all(&mut self.roots, pairs.as_slice(), finds))
+        Ok(enter_all(&mut self.roots, pairs.as_slice(), origins.as_slice()))
     }
 }

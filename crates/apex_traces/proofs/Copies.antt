@@ -1,5 +1,5 @@
 -- Copies into a buffer, of which the first bytes are kept.
-use Rattle.std.proofs.Common.{◌≡◌, ◌∙◌, ℕ, ◌+◌, ◌-◌, ◌≤◌, List, ◌++◌, length, take, drop, sym, ap, arith, append_assoc, length-append, length-drop, length-take-le, take-append-drop}
+use Rattle.std.proofs.Common.{◌≡◌, ◌∙◌, ℕ, ◌+◌, ◌≤◌, List, ◌++◌, length, take, drop, sym, ap, arith, append_assoc, length-append, length-drop, length-take-le, take-append-drop}
 use Rattle.std.proofs.lemmas.List.{take-append-le, take_all, take_at, take-take}
 use borrow.Rule.Slice.PartMut.{put_mid, post_of}
 
@@ -38,3 +38,12 @@ both_kept a n i cells first second more within few overlap whole front back =
     ∙ ap (λ l. (take a cells ++ take i more) ++ l) rest
     ∙ append_assoc (take a cells) (take i more) (drop i more)
     ∙ ap (λ l. take a cells ++ l) (take-append-drop i more)
+
+-- fewer of the bytes that a copy puts behind the first a cells
+pub front_kept : (a n m : ℕ) (cells after more : List ℕ) → a ≤ length cells → m ≤ n → n ≤ length more
+    → take (a + n) after ≡ take a cells ++ take n more
+    → take (a + m) after ≡ take a cells ++ take m more
+front_kept a n m cells after more within few long put =
+    sym (take-take (a + m) (a + n) after (omega (arith, few))) ∙ ap (take (a + m)) put
+    ∙ behind (take a cells) (take n more) a m (length-take-le a cells within) (omega (arith, length-take-le n more long, few))
+    ∙ ap (λ l. take a cells ++ l) (take-take m n more few)

@@ -1,5 +1,6 @@
 -- A count that changes.
-use Rattle.std.proofs.Common.{◌≡◌, ◌∙◌, ℕ, ◌<◌, false, List, ◌++◌, Option, ap, append_assoc, codes, decimal, refl}
+use Rattle.std.proofs.Common.{◌≡◌, ◌∙◌, ℕ, ◌<◌, false, List, [], ◌++◌, Option, Some, ap, append-nil, append_assoc, codes, decimal, refl, sym}
+use Rattle.std.proofs.lemmas.Bool.{eq-eqb}
 use Rattle.std.specs.Prelude.{slice_get}
 use Rattle.apex_machine.specs.Deeds.{Objects}
 use Rattle.apex_machine.specs.processes.Roster.{Roster}
@@ -44,6 +45,13 @@ pub count_changed : (table : Table) (time : ℕ) (kind : Kind) (i : ℕ) (before
     → whole ≡ text ++ change_text table time kind i before count
 count_changed table time kind i before count text name whole differs named put =
     rw (differs, ← named) (put ∙ ap (λ l. text ++ l) (counted kind name time count))
+
+-- nothing is put if a count is the one before
+pub count_still : (table : Table) (time : ℕ) (kind : Kind) (i before count : ℕ) (text : List ℕ) → before ≡ count
+    → text ≡ text ++ change_text table time kind i (Some before) count
+count_still table time kind i before count text is =
+    let nothing : change_text table time kind i (Some before) count ≡ [] = rw (eq-eqb before count is) refl in
+    sym (append-nil text) ∙ ap (λ (l : List ℕ). text ++ l) (sym nothing)
 
 -- the change of the count at a place
 pub change_at : (table : Table) (time : ℕ) (kind : Kind) (objects : Objects) (before : Option ℕ) (i : ℕ)

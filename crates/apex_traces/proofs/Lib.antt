@@ -4,3 +4,4 @@ pub mod TracksShown
 pub mod Arrowed
 pub mod Plain
 pub mod Copies
+pub mod Numbers

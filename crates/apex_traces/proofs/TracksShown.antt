@@ -1,8 +1,8 @@
 -- What a trace shows of a moment gives the text of the moment.
-use Rattle.std.proofs.Common.{◌≡◌, ◌∙◌, ℕ, zero, suc, ◌<◌, true, List, [], ◌∷◌, ◌++◌, Option, None, Some, refl, sym, ap, append-nil, append_assoc}
+use Rattle.std.proofs.Common.{◌≡◌, ◌∙◌, ℕ, zero, suc, ◌<◌, true, false, List, [], ◌∷◌, ◌++◌, Option, None, Some, refl, sym, ap, append-nil, append_assoc}
 use Rattle.std.proofs.lemmas.Bool.{eq-eqb, eqb-true}
 use Rattle.std.proofs.lemmas.List.{map-append}
-use Rattle.std.specs.Prelude.{Bool, map, flat_map, length, slice_get, slice_index_or, codes, if◌then◌else◌}
+use Rattle.std.specs.Prelude.{Bool, map, flat_map, length, slice_get, slice_index_or, codes, is_some, if◌then◌else◌}
 use Rattle.apex_machine.specs.text.Listing.{texts_of}
 use Rattle.apex_machine.specs.processes.Roster.{Roster, record_at}
 use Rattle.apex_machine.specs.processes.Running.{chosen, is_process, process_state}
@@ -238,3 +238,18 @@ pub process_still : (table : Table) (time p : ℕ) (before after : Being) (text 
 process_still table time p before after text is =
     let nothing : trace.process_text table (trace.process_spot p time) before after ≡ [] = rw (is, same_as_itself after) refl in
     sym (append-nil text) ∙ ap (λ (l : List ℕ). text ++ l) (sym nothing)
+
+-- nothing is put if a core runs the process that it ran
+pub core_still : (table : Table) (time core : ℕ) (before after was is : Option ℕ) (text : List ℕ) → before ≡ was → after ≡ is
+    → trace.same_process before after ≡ true
+    → text ≡ text ++ trace.core_text table (trace.core_spot core time) was is
+core_still table time core before after was is text v w same =
+    let nothing : trace.core_text table (trace.core_spot core time) was is ≡ [] = rw (← v, ← w, same) refl in
+    sym (append-nil text) ∙ ap (λ (l : List ℕ). text ++ l) (sym nothing)
+
+-- the end of a slice and the beginning of the next one are put if it runs another one
+pub core_switched : (table : Table) (time core : ℕ) (before after was is : Option ℕ) (text whole : List ℕ) → before ≡ was → after ≡ is
+    → trace.same_process before after ≡ false
+    → whole ≡ text ++ (trace.ended (is_some before) (trace.core_spot core time) ++ trace.run_of table (trace.core_spot core time) after)
+    → whole ≡ text ++ trace.core_text table (trace.core_spot core time) was is
+core_switched table time core before after was is text whole v w differs put = rw (← v, ← w, differs) put

@@ -9,7 +9,7 @@ ghost use Rattle.apex_traces.specs.declared.pieces.TheConstants.{ARROW, PIECE_RO
 ghost use Rattle.apex_types.specs.declared.limits.TheConstants.{MOST_NOTICES};
 
 use crate::calls::add_caller;
-use crate::pieces::{ARROW, DIGITS, Piece, add, add_number, add_text};
+use crate::pieces::{ARROW, DIGITS, Piece, add, add_number, add_text, add_track};
 use crate::stamps::{Timed, add_stamp};
 use apex_moments::notice_word;
 use apex_store::Store;
@@ -60,7 +60,7 @@ fn add_head(piece: &mut Piece, time: u64, stamp: &Timed, process: ProcessId, id:
     ensures short { array_vec_len piece.new ≤ array_vec_len piece.old + ARROW }
 {
     add_text(piece, *b",\n{\"ph\":\"f\",\"bp\":\"e\",\"pid\":2,\"tid\":");
-    add_number(piece, u64::from(process.number()));
+    add_track(piece, process.number());
     add_stamp(piece, stamp);
     add_back(piece, id, word);
 }

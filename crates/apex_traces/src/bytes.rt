@@ -129,6 +129,20 @@ impl<const ROOM: usize> Bytes<ROOM> {
         }
     }
 
+    /// Appends the first bytes of a text. It copies N bytes, a number that is known, and keeps the
+    /// first `count` of them.
+    #[inline(always)]
+    pub(crate) fn extend_by_front<const N: usize>(&mut self, more: &[u8], count: u32)
+        requires few { count ≤ N }
+        requires long { N ≤ length more.now }
+        requires room { array_vec_len self.old + N ≤ ROOM }
+        ensures items { self.new.items ≡ self.old.items ++ take count more.now }
+        ensures len { array_vec_len self.new ≡ array_vec_len self.old + count }
+    {
+        put_front::<N>(&mut self.cells[..], self.count as usize, more);
+        self.count += count;
+    }
+
     /// Appends the bytes of another buffer. It copies that whole buffer, whose size is known, and
     /// keeps the bytes of it.
     #[inline(always)]

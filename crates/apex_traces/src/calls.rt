@@ -9,7 +9,7 @@ ghost use Rattle.apex_traces.specs.declared.calls.TheConstants.{CALLER, LASTING,
 ghost use Rattle.apex_traces.specs.declared.pieces.TheConstants.{CALL, PIECE_ROOM};
 
 use crate::escapes::add_escaped;
-use crate::pieces::{CALL, DIGITS, Piece, add_number, add_text};
+use crate::pieces::{CALL, DIGITS, Piece, add_number, add_text, add_track};
 use crate::stamps::{TIMED, Timed, add_stamp};
 use crate::times::{TIME_ROOM, add_time};
 use apex_configs::Table;
@@ -166,7 +166,7 @@ pub(crate) fn add_caller(piece: &mut Piece, caller: &Caller)
     match caller {
         Caller::Process(process) => {
             add_text(piece, *b"\"pid\":2,\"tid\":");
-            add_number(piece, u64::from(process.number()));
+            add_track(piece, process.number());
         }
         Caller::Init => add_text(piece, *b"\"pid\":4,\"tid\":1"),
         Caller::Nobody => add_text(piece, *b"\"pid\":4,\"tid\":2"),

@@ -2,7 +2,7 @@
 ghost use Rattle.std.specs.Prelude.{◌≡◌, ◌+◌, ◌*◌, ◌≤◌, ◌++◌, [], OnOk, length};
 ghost use Rattle.arrayvec.specs.ArrayVec.{array_vec_len};
 ghost use Rattle.apex_types.specs.declared.limits.TheConstants.{MOST_NAME, MOST_OBJECTS};
-ghost use Rattle.apex_traces.specs.Counters.{change_text, count_at, counter_text, counters_text, kind_text, object_name, same_count};
+ghost use Rattle.apex_traces.specs.Counters.{count_at, counter_text, counters_text, kind_text, object_name};
 ghost use Rattle.apex_moments.specs.Counts.{counts_in, no_counts, object_count};
 ghost use Rattle.apex_traces.specs.declared.pieces.TheConstants.{COUNTER, PIECE_ROOM};
 
@@ -64,40 +64,6 @@ fn add_changed(
     );
 }
 
-#[inline(always)]
-fn is_same_count(before: &Option<u64>, count: u64) -> bool
-    ensures { result ≡ same_count before.now count }
-{
-    match before {
-        Some(before) => *before == count,
-        None => false,
-    }
-}
-
-/// Adds the count of the object of a kind at a place, if it is not the one before.
-#[inline(always)]
-fn add_change(
-    piece: &mut Piece,
-    table: &Table,
-    time: u64,
-    stamp: &Timed,
-    kind: Kind,
-    place: u8,
-    before: &Option<u64>,
-    count: u64,
-)
-    requires stamp { stamp.now ≡ time }
-    requires room { array_vec_len piece.old + COUNTER ≤ PIECE_ROOM }
-    ensures text { piece.new.items ≡ piece.old.items
-        ++ change_text table.now time kind place before.now count }
-    ensures short { array_vec_len piece.new ≤ array_vec_len piece.old + COUNTER }
-{
-    if is_same_count(before, count) {
-        return;
-    }
-    add_changed(piece, table, time, stamp, kind, place, count);
-}
-
 /// Adds the first count of the object of a kind at a place, if it has one.
 fn add_first(piece: &mut Piece, table: &Table, stamp: &Timed, kind: Kind, first: &[u64], place: u8)
     requires stamp { stamp.now ≡ 0 }
@@ -107,7 +73,7 @@ fn add_first(piece: &mut Piece, table: &Table, stamp: &Timed, kind: Kind, first:
     ensures short { array_vec_len piece.new ≤ array_vec_len piece.old + COUNTER }
 {
     if let Some(count) = count_at(first, usize::from(place)) {
-        add_change(piece, table, 0, stamp, kind, place, &None, count);
+        add_changed(piece, table, 0, stamp, kind, place, count);
     }
 }
 
@@ -165,16 +131,18 @@ pub(crate) fn add_kind(
 )
     requires stamp { stamp.now ≡ time }
     requires many { length counts.old ≡ object_count table.now kind }
+    requires few { length counts.old ≤ MOST_OBJECTS }
     requires room { array_vec_len piece.old + COUNTER * MOST_OBJECTS ≤ PIECE_ROOM }
     ensures text { piece.new.items ≡ piece.old.items
         ++ kind_text table.now time kind counts.old (counts_in table.now objects.now kind) }
     ensures counts { counts.new ≡ counts_in table.now objects.now kind }
     ensures short { array_vec_len piece.new ≤ array_vec_len piece.old + COUNTER * MOST_OBJECTS }
 {
-    for place in 0..kind.object_count(table) {
+    for place in 0..counts.len() {
         let count = kind.count_of(objects, place as u8);
-        let before = Some(counts[place]);
-        add_change(piece, table, time, stamp, kind, place as u8, &before, count);
-        counts[place] = count;
+        if counts[place] != count {
+            add_changed(piece, table, time, stamp, kind, place as u8, count);
+            counts[place] = count;
+        }
     }
 }

@@ -35,6 +35,14 @@ pub(crate) const PIECE_ROOM: usize = CALL
     + COUNTER * 4 * MOST_OBJECTS
     + (MARK + 2 * ARROW) * MOST_NOTICES;
 
+/// The two digits of each number below 100, of which the first one may be a zero.
+static PAIRS: [u8; 200] =
+    *b"00010203040506070809101112131415161718192021222324252627282930313233343536373839404142434445464748495051525354555657585960616263646566676869707172737475767778798081828384858687888990919293949596979899";
+
+/// The digits of each number below 100, with a space behind one digit.
+static NUMBERS: [u8; 200] =
+    *b"0 1 2 3 4 5 6 7 8 9 101112131415161718192021222324252627282930313233343536373839404142434445464748495051525354555657585960616263646566676869707172737475767778798081828384858687888990919293949596979899";
+
 /// The changes by an entry.
 pub(crate) type Piece = Bytes<PIECE_ROOM>;
 
@@ -80,35 +88,39 @@ pub(crate) fn add_digit<const ROOM: usize>(piece: &mut Bytes<ROOM>, digit: u8)
     piece.push(b'0' + digit);
 }
 
-/// The two digits of a number below 100, of which the first one may be a zero.
-// Byte by byte: a compiler puts the bytes of one text into a word first.
+/// Adds the two digits of a number below 100, of which the first one may be a zero.
 #[inline(always)]
-#[tactic(auto, using(std::proofs::Common::append_assoc))]
-fn add_pair<const ROOM: usize>(piece: &mut Bytes<ROOM>, number: u8)
+pub(crate) fn add_pair<const ROOM: usize>(piece: &mut Bytes<ROOM>, number: u8)
     requires digits { number < 100 }
     requires room { array_vec_len piece.old + 2 ≤ ROOM }
     ensures text { piece.new.items ≡ piece.old.items
         ++ (48 + number / 10) ∷ (48 + number % 10) ∷ [] }
     ensures len { array_vec_len piece.new ≡ array_vec_len piece.old + 2 }
 {
-    piece.push(b'0' + number / 10);
-    piece.push(b'0' + number % 10);
+    piece.extend_by_front::<2>(&PAIRS[2 * usize::from(number)..], 2);
 }
 
-// A number of at most two digits, as most tracks have.
+/// How many digits a number below 100 has.
 #[inline(always)]
-#[tactic(auto, using(apex_history::proofs::Digits::two_digits))]
+#[tactic(auto, using(std::proofs::lemmas::Fmt::decimal_digit, apex_history::proofs::Digits::two_digits))]
+fn digit_count(number: u8) -> u32
+    requires { number < 100 }
+    ensures value { result ≡ length (decimal number) }
+    ensures few { result ≤ 2 }
+{
+    if number < 10 { 1 } else { 2 }
+}
+
+// A number of at most two digits, as most tracks have: without a branch between one and two.
+#[inline(always)]
 fn add_below_hundred<const ROOM: usize>(piece: &mut Bytes<ROOM>, number: u8)
     requires digits { number < 100 }
     requires room { array_vec_len piece.old + 2 ≤ ROOM }
     ensures text { piece.new.items ≡ piece.old.items ++ decimal number }
     ensures short { array_vec_len piece.new ≤ array_vec_len piece.old + 2 }
 {
-    if number < 10 {
-        add_digit(piece, number);
-    } else {
-        add_pair(piece, number);
-    }
+    let digits = &NUMBERS[2 * usize::from(number)..];
+    piece.extend_by_front::<2>(digits, digit_count(number));
 }
 
 // A number of three or four digits.
@@ -174,6 +186,20 @@ fn add_digits<const ROOM: usize>(piece: &mut Bytes<ROOM>, number: u64)
 {
     let mut buffer = Buffer::new();
     add(piece, buffer.format(number));
+}
+
+/// Adds the number of a track, which has mostly one digit or two.
+#[inline(always)]
+pub(crate) fn add_track<const ROOM: usize>(piece: &mut Bytes<ROOM>, number: u32)
+    requires { array_vec_len piece.old + DIGITS ≤ ROOM }
+    ensures text { piece.new.items ≡ piece.old.items ++ decimal number }
+    ensures short { array_vec_len piece.new ≤ array_vec_len piece.old + DIGITS }
+{
+    if number < 100 {
+        add_below_hundred(piece, number as u8);
+    } else {
+        add_number(piece, u64::from(number));
+    }
 }
 
 /// Adds the number in decimal digits.

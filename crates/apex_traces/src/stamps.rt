@@ -48,13 +48,24 @@ impl Timed {
         Timed { time, text }
     }
 
+    /// Makes it this time.
+    #[tactic(auto, using(std::proofs::Common::append_assoc))]
+    fn set(&mut self, time: u64)
+        ensures { self.new ≡ time }
+    {
+        self.text.clear();
+        add_text(&mut self.text, *b",\"ts\":");
+        add_time(&mut self.text, time);
+        self.time = time;
+    }
+
     /// Makes it this time, if it is another one.
     #[inline(always)]
     pub(crate) fn reach(&mut self, time: u64)
         ensures { self.new ≡ time }
     {
         if self.time != time {
-            *self = Timed::new(time);
+            self.set(time);
         }
     }
 }

@@ -5,14 +5,14 @@ ghost use Rattle.apex_traces.specs.Times.{fraction_text, time_text};
 ghost use Rattle.apex_traces.specs.declared.times.TheConstants.{TIME_ROOM};
 
 use crate::bytes::Bytes;
-use crate::pieces::{DIGITS, add_digit, add_number, add_text};
+use crate::pieces::{DIGITS, add_digit, add_number, add_pair, add_text};
 
 /// The most bytes of the text of a time: its microseconds, a point and three digits.
 pub(crate) const TIME_ROOM: usize = DIGITS + 4;
 
 /// Adds the thousandths beyond the units, if there are any, without zeros at the end.
 #[inline(always)]
-#[tactic(auto, using(std::proofs::Common::append_assoc))]
+#[tactic(auto, using(std::proofs::Common::append_assoc, crate::proofs::Numbers::fraction_pair))]
 fn add_fraction<const ROOM: usize>(text: &mut Bytes<ROOM>, thousandths: u16)
     requires digits { thousandths < 1000 }
     requires room { array_vec_len text.old + 4 ≤ ROOM }
@@ -23,11 +23,11 @@ fn add_fraction<const ROOM: usize>(text: &mut Bytes<ROOM>, thousandths: u16)
         return;
     }
     add_text(text, *b".");
-    add_digit(text, (thousandths / 100) as u8);
     if thousandths % 100 == 0 {
+        add_digit(text, (thousandths / 100) as u8);
         return;
     }
-    add_digit(text, (thousandths / 10 % 10) as u8);
+    add_pair(text, (thousandths / 10) as u8);
     if thousandths % 10 != 0 {
         add_digit(text, (thousandths % 10) as u8);
     }

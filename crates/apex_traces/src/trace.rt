@@ -23,7 +23,7 @@ use crate::calls::{Said, Span};
 use crate::counters::put_first_counts;
 use crate::escapes::add_escaped;
 use crate::mutexes::{add_mutex_ends, put_mutex_names};
-use crate::pieces::{ARROW, CALL, DIGITS, MARK, Piece, TRACK, add, add_number, add_text};
+use crate::pieces::{ARROW, CALL, DIGITS, MARK, Piece, TRACK, add, add_text, add_track};
 use crate::stamps::{FRONT, TIMED, Timed, add_begin_front, add_end_front, add_stamp};
 use crate::tracks::{Tracks, is_still, track_at, track_by};
 use apex_configs::Table;
@@ -164,7 +164,7 @@ fn add_end(piece: &mut Piece, spot: Spot, stamp: &Timed)
     ensures short { array_vec_len piece.new ≤ array_vec_len piece.old + END }
 {
     add_end_front(piece, spot.group);
-    add_number(piece, u64::from(spot.track));
+    add_track(piece, spot.track);
     add_stamp(piece, stamp);
     add_text(piece, *b"}");
 }
@@ -178,7 +178,7 @@ pub(crate) fn add_begin(piece: &mut Piece, spot: Spot, stamp: &Timed)
     ensures short { array_vec_len piece.new ≤ array_vec_len piece.old + BEGIN }
 {
     add_begin_front(piece, spot.group);
-    add_number(piece, u64::from(spot.track));
+    add_track(piece, spot.track);
     add_stamp(piece, stamp);
     add_text(piece, *b",\"name\":\"");
 }
@@ -191,7 +191,7 @@ fn add_run_name(piece: &mut Piece, table: &Table, process: ProcessId)
     ensures text { piece.new.items ≡ piece.old.items ++ trace.run_name_text table.now process }
     ensures short { array_vec_len piece.new ≤ array_vec_len piece.old + NAME }
 {
-    add_number(piece, u64::from(process.number()));
+    add_track(piece, process.number());
     add_text(piece, *b" ");
     add_escaped(piece, name_of(table, process));
     add_text(piece, *b"\"}");
@@ -440,8 +440,8 @@ pub(crate) fn add_runs<S: Store>(
     for place in 0..table.cores() {
         let (core, here) = (CoreId::new(place), usize::from(place));
         let (before, after) = (running[here], store.chosen(core));
-        add_core(piece, table, core, time, stamp, &before, &after);
         if !is_same_process(&before, &after) {
+            add_switch(piece, table, core, time, stamp, &before, &after);
             running[here] = after;
         }
     }
@@ -465,6 +465,7 @@ pub(crate) fn add_processes<S: Store>(
     requires stamp { stamp.now ≡ time }
     requires running { running.now ≡ running_in (S.roster store.now) }
     requires many { length tracks.old ≡ length (S.roster store.now).records }
+    requires few { length tracks.old ≤ MOST_PROCESSES }
     requires room { array_vec_len piece.old + TRACK * MOST_PROCESSES ≤ PIECE_ROOM }
     ensures text { piece.new.items ≡ piece.old.items
         ++ texts_of (trace.process_at table.now time
@@ -474,7 +475,7 @@ pub(crate) fn add_processes<S: Store>(
         ≡ of_places (track_of (S.roster store.now)) (length (S.roster store.now).records) }
     ensures short { array_vec_len piece.new ≤ array_vec_len piece.old + TRACK * MOST_PROCESSES }
 {
-    for place in 0..store.process_count() {
+    for place in 0..tracks.len() {
         let process = ProcessId::at(place as u8);
         let before = tracks[place];
         if !is_still(store, process, running, &before) {
@@ -521,7 +522,7 @@ fn add_mark(
     ensures short { array_vec_len piece.new ≤ array_vec_len piece.old + MARK }
 {
     add_text(piece, *b",\n{\"ph\":\"i\",\"pid\":2,\"tid\":");
-    add_number(piece, u64::from(process.number()));
+    add_track(piece, process.number());
     add_stamp(piece, stamp);
     add_text(piece, *b",\"name\":\"");
     add(piece, word);

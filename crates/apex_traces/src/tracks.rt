@@ -210,8 +210,6 @@ impl Tracks {
         ensures shown { self.new ≡ bare (moment_of (S.roster store.now)
             (counts_of table.now (S.roster store.now) objects.now)) }
     {
-        let time = span.end;
-        let stamp = Timed::new(time);
         self.latest.reach(span.begin);
         self.piece.clear();
         add_call(
@@ -223,14 +221,16 @@ impl Tracks {
             &self.latest,
             entry,
         );
+        let time = span.end;
+        self.latest.reach(time);
+        let stamp = &self.latest;
         let running = self.running.as_mut_slice();
-        add_runs(&mut self.piece, table, store, time, &stamp, running);
+        add_runs(&mut self.piece, table, store, time, stamp, running);
         let (running, tracks) = (self.running.as_slice(), self.tracks.as_mut_slice());
-        add_processes(&mut self.piece, table, store, running, time, &stamp, tracks);
+        add_processes(&mut self.piece, table, store, running, time, stamp, tracks);
         let counts = &mut self.counts;
-        add_changes(counts, &mut self.piece, table, objects, store, time, &stamp);
-        add_notices(&mut self.piece, store, time, &stamp, entry);
-        self.latest = stamp;
+        add_changes(counts, &mut self.piece, table, objects, store, time, stamp);
+        add_notices(&mut self.piece, store, time, stamp, entry);
         put_bytes(text, self.piece.as_slice())
     }
 

@@ -24,7 +24,7 @@ returns-in_default-latest-clause-shown g c =
     let machine = c.args.kernel.now.machine in
     let new : c.accept.new.self.machine ≡ accept table machine c.args.event = ap (λ (k : KernelState _). k.machine) c.in-Ok.ensures.done in
     let none : last_or None c.accept.new.self.machine.history ≡ None =
-    ap (last_or None) (sym c.entries.ensures) ∙ sym c.latest.ensures ∙ c.in_default-latest.is in
+    ap (last_or None) (sym c.entries.ensures) ∙ sym c.latest-latest.ensures ∙ c.in_default-latest.is in
     absurd (latest_some table machine (pictured_machine table machine c.holds.ensures.replays) c.args.event _
     (c.in-Ok.ensures.accepted.0 refl) new none)
 
@@ -34,7 +34,7 @@ returns-in_default-latest-clause-drawn g c =
     let machine = c.args.kernel.now.machine in
     let new : c.accept.new.self.machine ≡ accept table machine c.args.event = ap (λ (k : KernelState _). k.machine) c.in-Ok.ensures.done in
     let none : last_or None c.accept.new.self.machine.history ≡ None =
-    ap (last_or None) (sym c.entries.ensures) ∙ sym c.latest.ensures ∙ c.in_default-latest.is in
+    ap (last_or None) (sym c.entries.ensures) ∙ sym c.latest-latest.ensures ∙ c.in_default-latest.is in
     absurd (latest_some table machine (pictured_machine table machine c.holds.ensures.replays) c.args.event _
     (c.in-Ok.ensures.accepted.0 refl) new none)
 
@@ -56,7 +56,7 @@ returns-in_default-latest-clause-instant g c =
     let machine = c.args.kernel.now.machine in
     let new : c.accept.new.self.machine ≡ accept table machine c.args.event = ap (λ (k : KernelState _). k.machine) c.in-Ok.ensures.done in
     let none : last_or None c.accept.new.self.machine.history ≡ None =
-    ap (last_or None) (sym c.entries.ensures) ∙ sym c.latest.ensures ∙ c.in_default-latest.is in
+    ap (last_or None) (sym c.entries.ensures) ∙ sym c.latest-latest.ensures ∙ c.in_default-latest.is in
     absurd (latest_some table machine (pictured_machine table machine c.holds.ensures.replays) c.args.event _
     (c.in-Ok.ensures.accepted.0 refl) new none)
 
@@ -94,7 +94,7 @@ put_column-requires-clause-printable g c =
     let machine = c.args.kernel.now.machine in
     let new : c.accept.new.self.machine ≡ accept table machine c.args.event = ap (λ (k : KernelState _). k.machine) c.in-Ok.ensures.done in
     let latest : last_or None c.accept.new.self.machine.history ≡ Some c.in-Some.entry =
-    ap (last_or None) (sym c.entries.ensures) ∙ sym c.latest.ensures ∙ c.in-Some.is in
+    ap (last_or None) (sym c.entries.ensures) ∙ sym c.latest-latest.ensures ∙ c.in-Some.is in
     latest_holds table machine _ c.args.event (IsPrintable c.accept.new.self.table) c.in-Some.entry
     (c.in-Ok.ensures.accepted.0 refl) new latest c.holds-2.ensures.printable
 
@@ -104,7 +104,7 @@ returns-clause-drawn g c =
     let machine = c.args.kernel.now.machine in
     let new : c.accept.new.self.machine ≡ accept table machine c.args.event = ap (λ (k : KernelState _). k.machine) c.in-Ok.ensures.done in
     let latest : last_or None c.accept.new.self.machine.history ≡ Some c.in-Some.entry =
-    ap (last_or None) (sym c.entries.ensures) ∙ sym c.latest.ensures ∙ c.in-Some.is in
+    ap (last_or None) (sym c.entries.ensures) ∙ sym c.latest-latest.ensures ∙ c.in-Some.is in
     let kept : c.accept.new.self.table ≡ table = ap (λ (k : KernelState _). k.table) c.in-Ok.ensures.done in
     let more = column_more table machine (pictured_machine table machine c.holds.ensures.replays) c.args.event _ c.in-Some.entry
     (c.in-Ok.ensures.accepted.0 refl) new latest in

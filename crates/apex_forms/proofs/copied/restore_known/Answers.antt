@@ -1,14 +1,15 @@
-use Rattle.std.proofs.Common.{length, ◌≡◌, ◌∙◌, ◌+◌, ◌*◌, ap, of_z, pos, subst, sym, to_z, w64, arith}
+use Rattle.std.proofs.Common.{length, ◌≡◌, ◌≤◌, ◌∙◌, ◌+◌, ◌*◌, ap, of_z, pos, subst, sym, to_z, w64, arith}
 use Rattle.std.proofs.lemmas.Int.{to_z_pos}
 use Rattle.apex_dispatch.specs.Situations.{situation_with}
 use Rattle.apex_machine.specs.Situations.{Situation}
 use Rattle.apex_types.proofs.Places.{length-map_places}
 use Rattle.apex_forms.proofs.Places.{entry_record}
 use Rattle.apex_forms.proofs.Restoring.{few_stamps, roster_restored}
-use Rattle.apex_forms.proofs.Copying.{of_kinds}
+use Rattle.apex_forms.proofs.Copying.{of_kinds, works_kept}
 use Rattle.apex_choices.specs.Counts.{StoredPaced, paced_in}
 use Rattle.apex_machine.specs.processes.Roster.{Roster}
-use Rattle.apex_forms.specs.Restored.{IsOfTable, roster_from, turns_in, worked_in, works_in}
+use Rattle.apex_forms.specs.Restored.{IsOfTable, roster_from}
+use Rattle.apex_types.specs.declared.limits.TheConstants.{MOST_CORES}
 use Rattle.apex_forms.proofs.copied.restore_known.Goals as goal
 
 pub returns : goal.returns
@@ -21,7 +22,7 @@ returns c =
     ∙ c.into_parts-store.ensures.situation in
     let of = subst (IsOfTable c.args.table.now) same c.requires.table in
     let new = c.new.ensures.situation in
-    let cores = c.cores-cores.ensures.value in
+    let few_cores : table.cores ≤ MOST_CORES = omega (arith, c.lawful.ensures.cores) in
     let many = c.process_count.ensures.value ∙ of.records in
     let few = few_stamps c.process_count.result c.process_count.ensures.range in
     let n = c.process_count.result in
@@ -41,12 +42,13 @@ returns c =
             c.set_clock.ensures c.mode_in.ensures
             (stamp ∙ ap (λ k. pos (1 + (k + 1) * k)) many);
         objects = ap (λ (s : Situation). s.objects) new ∙ c.copy_objects.ensures ∙ objects;
-        works = λ core. ap (λ (s : Situation). s.works core) new ∙ c.works_in-works.ensures core
-            ∙ ap (λ n. works_in n words core) cores;
+        works = λ core. ap (λ (s : Situation). s.works core) new ∙ c.works_of.ensures core
+            ∙ works_kept table.cores MOST_CORES words (paced_in c.args.known.now).situation.works core few_cores
+            (c.requires.known.situation.works core);
         made = ap (λ (s : Situation). s.made) new;
       };
-      turns = λ core. c.counts_in.ensures.turns core ∙ ap (λ n. turns_in n words core) cores;
-      worked = λ core. c.counts_in.ensures.worked core ∙ ap (λ n. worked_in n words core) cores;
+      turns = λ core. c.counts_of.ensures.turns core ∙ c.requires.known.turns core;
+      worked = λ core. c.counts_of.ensures.worked core ∙ c.requires.known.worked core;
     }
 
 pub copy_records-requires : goal.copy_records-requires

@@ -3,9 +3,9 @@ use Rattle.std.proofs.Common.{◌≡◌, ◌∷◌, ◌++◌, [], List, Some, sy
 use Rattle.std.proofs.lemmas.Option.{slice_get-get_or}
 use Rattle.std.specs.List.{slice_get}
 use Rattle.apex_explore.specs.Desks.{IsDesk}
-use Rattle.apex_explore.specs.declared.parts.Expansion.{Expansion}
+use Rattle.apex_states.specs.declared.expansions.Expansion.{Expansion}
 use Rattle.apex_states.specs.Lists.{AllAre}
-use Rattle.apex_jobs.specs.Rounds.{IsWide}
+use Rattle.apex_states.specs.Expansions.{IsWide}
 use Rattle.apex_jobs.proofs.Layouts.{all_popped, all_set}
 use Rattle.apex_jobs.proofs.Rounds.{given_desk}
 use Rattle.apex_jobs.proofs.expanding.give_back.Goals as goal

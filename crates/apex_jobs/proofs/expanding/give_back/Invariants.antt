@@ -1,6 +1,6 @@
 use Rattle.apex_explore.specs.Desks.{IsDesk}
 use Rattle.apex_states.specs.Lists.{AllAre}
-use Rattle.apex_jobs.specs.Rounds.{IsWide}
+use Rattle.apex_states.specs.Expansions.{IsWide}
 use Rattle.apex_jobs.proofs.expanding.give_back.Given as goal
 
 abbrev pub invariant-loop-place : goal.invariant-loop-place

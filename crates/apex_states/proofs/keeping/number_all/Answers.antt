@@ -1,13 +1,42 @@
--- Halves that are numbered, one after the other.
-use Rattle.apex_states.proofs.Numbering.{parent_number, IsNumbering-next}
+-- Expansions that are numbered, one after the other.
+use Rattle.std.proofs.Common.{◌≡◌, ◌+◌, ◌<◌, List, [], ◌∷◌, ◌++◌, length, take, sym, ap, ◌∙◌, subst, arith, get_or}
+use Rattle.std.proofs.Math.Seq.{take-length}
+use Rattle.std.proofs.lemmas.List.{take_more}
+use Rattle.std.proofs.lemmas.Option.{slice_get-get_or}
+use Rattle.apex_states.specs.declared.expansions.Expansion.{Expansion}
+use Rattle.apex_states.specs.Keeping.{AreAllNumbered}
+use Rattle.apex_states.proofs.Halving.{StillHas-trans}
+use Rattle.apex_states.proofs.Numbering.{AreAllNumbered-next, CanNumber-held}
 use Rattle.apex_states.proofs.keeping.number_all.Goals as goal
 
-pub restore-requires-clause-known : goal.restore-requires-clause-known
-restore-requires-clause-known c =
-    let (pair, there, is) = c.number.ensures in
-    parent_number c.args.half.now c.loop-place.half c.args.roots.now.states c.origin.result.parent pair c.number.result c.side.result c.requires.valid c.loop-place.invariant.has there c.side.ensures is
+pub number_finds-requires : goal.number_finds-requires
+number_finds-requires c =
+    let expansion = get_or c.args.expansions.now c.loop-place.place c.index-expansions-place.result in
+    let short : c.loop-place.place < length c.args.expansions.now = omega arith in
+    let here = slice_get-get_or c.args.expansions.now c.loop-place.place c.index-expansions-place.result short in
+    CanNumber-held c.args.half.now c.loop-place.half c.args.roots.now expansion.finds c.loop-place.invariant.has c.loop-place.invariant.is_half (c.requires.each c.loop-place.place expansion here)
 
 pub loop-place-preserved : goal.loop-place-preserved
 loop-place-preserved c =
-    rw c.in_ok-push.ensures.items (IsNumbering-next c.args.finds.now c.args.half.now c.loop-place.half c.restore.new.self c.number-in-loop-place.new.self c.loop-place.numbers.items c.loop-place.place c.in_ok-number.field-0 c.state.result.now
-    c.state.ensures.state c.state.ensures.width c.restore.ensures.held c.number-in-loop-place.ensures.held c.number-in-loop-place.ensures.half c.in_ok-number.ensures.number c.loop-place.invariant)
+    let expansions = c.args.expansions.now in
+    let place = c.loop-place.place in
+    let expansion = get_or expansions place c.index-expansions-place.result in
+    let so_far = c.loop-place.invariant in
+    let new = c.number_finds.new.half in
+    let short : place < length expansions = omega arith in
+    let next : take (place + 1) expansions ≡ take place expansions ++ expansion ∷ [] = take_more expansions place c.index-expansions-place.result short in
+    let more = c.in_ok-more.more.items in
+    let numbered = AreAllNumbered-next c.loop-place.half new (take place expansions) expansion c.loop-place.numbers.items more c.number_finds.ensures.held so_far.numbered c.in_ok-more.ensures.numbers in
+    let Numbered : List Expansion → Type 0 = λ es. AreAllNumbered new es (c.loop-place.numbers.items ++ more) in
+    rw (c.in_ok-extend_from_slice.ensures.items, c.as_slice.ensures.value) (record {
+      is_half = c.number_finds.ensures.half;
+      has = StillHas-trans c.args.half.now c.loop-place.half new so_far.has c.number_finds.ensures.held;
+      numbered = subst Numbered (sym next) numbered;
+    })
+
+pub returns-clause-numbers : goal.returns-clause-numbers
+returns-clause-numbers c =
+    let expansions = c.args.expansions.now in
+    let last : c.loop-place.place ≡ length expansions = omega arith in
+    let all : take c.loop-place.place expansions ≡ expansions = ap (λ n. take n expansions) last ∙ take-length expansions in
+    rw all at c.loop-place.invariant.numbered

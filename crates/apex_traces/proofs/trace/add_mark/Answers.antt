@@ -12,5 +12,5 @@ returns-clause-text c =
     let timed = rw (ap time_back c.requires.stamp) at c.add_stamp.ensures.text in
     six_behind c.args.piece.now.items front (id_text c.args.process) (begin_back c.args.time)
     c.args.word.now c.args.detail.now (codes "\"}") _ _ _ _ _ _
-    c.add_text.ensures.text (rw (c.from.ensures, c.number.ensures) at c.add_number.ensures.text)
+    c.add_text.ensures.text (rw c.number.ensures at c.add_track.ensures.text)
     (mark_back c.args.time _ _ _ timed c.add_text-2.ensures.text) c.add.ensures.text c.add-2.ensures.text c.add_text-3.ensures.text

@@ -18,8 +18,8 @@ loop-place-preserved g c =
     let at = c.loop-place.invariant in
     let place = c.loop-place.place in
     let old = c.args.tracks.now in
-    let within : place < length roster.records = omega (arith, at.end, c.loop-place-test.true) in
-    let kept : place < length old = omega (arith, within, c.requires.many) in
+    let kept : place < length old = omega (arith, at.end, c.loop-place-test.true) in
+    let within : place < length roster.records = omega (arith, kept, c.requires.many) in
     let before = c.index-tracks-place.result in
     let was : before ≡ being_in (slice_index_or (map cell_on old) place no_cell) =
     c.index-tracks-place.is ∙ kept_at (track_of roster) place old _ before kept at.tracks

@@ -6,7 +6,7 @@ use Rattle.apex_types.specs.declared.limits.TheConstants.{MOST_CORES}
 use Rattle.apex_moments.specs.Moments.{running_in, with_running}
 use Rattle.apex_traces.specs.Trace as trace
 use Rattle.apex_moments.proofs.Places.{changed_at, kept_at, place_of, same_at, still_at, text_next}
-use Rattle.apex_traces.proofs.TracksShown.{same_found}
+use Rattle.apex_traces.proofs.TracksShown.{core_still, core_switched, same_found}
 use Rattle.apex_traces.proofs.trace.add_runs.Goals as goal
 use Rattle.apex_traces.proofs.trace.add_runs.Goals.{then-not-is_same_process, else-not-is_same_process}
 
@@ -25,8 +25,7 @@ loop-place-preserved g c =
     let now : c.chosen-after.result ≡ chosen roster place = rw c.new-core.ensures at c.chosen-after.ensures.value in
     let is : c.chosen-after.result ≡ slice_index_or (running_in roster) place None =
     now ∙ sym (place_of (chosen roster) MOST_CORES place None few) in
-    let text = text_next (trace.core_at c.args.table.now c.args.time (with_running old) (with_running (running_in roster))) place _ _ _ at.text
-    (rw (was, is, c.new-core.ensures) at c.add_core.ensures.text) in
+    let changes = trace.core_at c.args.table.now c.args.time (with_running old) (with_running (running_in roster)) in
     elim c.if-not-is_same_process.branch [
       | then-not-is_same_process w ↦
           let put : _ ≡ set c.loop-place.running place c.chosen-after.result = w.running-is ∙ rw c.from-here.ensures refl in
@@ -34,8 +33,11 @@ loop-place-preserved g c =
             stamp = at.stamp;
             end = at.end;
             runs = changed_at (chosen roster) place old _ _ _ kept at.runs put now;
-            text = text;
-            short = omega (arith, at.short, c.add_core.ensures.short);
+            text = text_next changes place _ _ _ at.text
+                (rw w.piece-is (core_switched c.args.table.now c.args.time place before c.chosen-after.result _ _
+                c.loop-place.piece.items w.add_switch.new.piece.items was is
+                (sym c.is_same_process.ensures ∙ w.if-not-is_same_process.true) (rw c.new-core.ensures at w.add_switch.ensures.text)));
+            short = rw w.piece-is (omega (arith, at.short, w.add_switch.ensures.short));
           }
       | else-not-is_same_process w ↦
           let same : before ≡ c.chosen-after.result =
@@ -44,8 +46,10 @@ loop-place-preserved g c =
             stamp = at.stamp;
             end = at.end;
             runs = rw w.running-is (still_at (chosen roster) place old _ before kept at.runs (sym is_here ∙ same ∙ now));
-            text = text;
-            short = omega (arith, at.short, c.add_core.ensures.short);
+            text = text_next changes place _ _ _ at.text
+                (rw w.piece-is (core_still c.args.table.now c.args.time place before c.chosen-after.result _ _
+                c.loop-place.piece.items was is (sym c.is_same_process.ensures ∙ w.if-not-is_same_process.false)));
+            short = rw w.piece-is (omega (arith, at.short));
           }
     ]
 

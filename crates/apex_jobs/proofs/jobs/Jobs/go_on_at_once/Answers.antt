@@ -7,7 +7,8 @@ use Rattle.apex_explore.specs.declared.searches.Search.{Search}
 use Rattle.apex_explore.proofs.Levels.{turned_level}
 use Rattle.apex_states.specs.States.{Reached}
 use Rattle.apex_states.specs.Lists.{AllAre}
-use Rattle.apex_jobs.specs.Rounds.{AreExpansions, IsWide}
+use Rattle.apex_jobs.specs.Rounds.{AreExpansions}
+use Rattle.apex_states.specs.Expansions.{IsWide}
 use Rattle.apex_jobs.proofs.Rounds.{AreExpansions-later, AreExpansions-wide}
 use Rattle.apex_jobs.proofs.jobs.Jobs.go_on_at_once.Goals as goal
 

@@ -1,0 +1,77 @@
+-- The digits of a number below 100, by the tables.
+use Rattle.std.proofs.Common.{◌≡◌, ◌∙◌, ℕ, ◌+◌, ◌*◌, ◌/◌, ◌%◌, ◌<◌, ◌≤◌, Bool, true, eqb, ltb, List, [], ◌∷◌, ◌++◌, length, take, drop, get_or, ap, inl, inr, arith, refl}
+use Rattle.std.proofs.lemmas.Bool.{agree_below, agree_below_at, cases_lt, eqb-true, le-ltb, lt-ltb}
+use Rattle.std.proofs.lemmas.Fmt.{decimal_digit}
+use Rattle.std.proofs.lemmas.List.{get_or-drop, length-drop}
+use Rattle.std.proofs.Math.Seq.{take-suc}
+use Rattle.std.specs.Prelude.{decimal, if◌then◌else◌}
+use Rattle.apex_history.proofs.Digits.{two_digits}
+use Rattle.apex_traces.specs.declared.pieces.TheConstants.{NUMBERS, PAIRS}
+
+-- the first byte of a table from a place on, and the first two
+one_at : (table : List ℕ) (i : ℕ) → i + 1 ≤ length table → take 1 (drop i table) ≡ get_or table (i + 0) 0 ∷ []
+one_at table i there =
+    take-suc (drop i table) 0 0 (omega (arith, length-drop i table, there)) ∙ ap (λ n. n ∷ []) (get_or-drop i table 0 0)
+
+two_at : (table : List ℕ) (i : ℕ) → i + 2 ≤ length table
+    → take 2 (drop i table) ≡ get_or table (i + 0) 0 ∷ get_or table (i + 1) 0 ∷ []
+two_at table i there =
+    take-suc (drop i table) 1 0 (omega (arith, length-drop i table, there))
+    ∙ ap (λ l. l ++ (get_or (drop i table) 1 0 ∷ [])) (one_at table i (omega (arith, there)))
+    ∙ ap (λ n. get_or table (i + 0) 0 ∷ n ∷ []) (get_or-drop i table 1 0)
+
+-- the table of pairs has the digits of a number
+abbrev are_tens : ℕ → Bool
+are_tens p = eqb (get_or PAIRS (2 * p + 0) 0) (48 + p / 10)
+
+abbrev are_units : ℕ → Bool
+are_units p = eqb (get_or PAIRS (2 * p + 1) 0) (48 + p % 10)
+
+all_tens : agree_below are_tens (λ _. true) 100 ≡ true
+all_tens = refl
+
+all_units : agree_below are_units (λ _. true) 100 ≡ true
+all_units = refl
+
+-- the two digits of a number
+pub pair_text : (p : ℕ) → p < 100 → take 2 (drop (2 * p) PAIRS) ≡ (48 + p / 10) ∷ (48 + p % 10) ∷ []
+pair_text p lt =
+    let first = eqb-true _ _ (agree_below_at are_tens (λ _. true) 100 p all_tens lt) in
+    let second = eqb-true _ _ (agree_below_at are_units (λ _. true) 100 p all_units lt) in
+    two_at PAIRS (2 * p) (omega (arith, lt)) ∙ ap (λ n. n ∷ get_or PAIRS (2 * p + 1) 0 ∷ []) first
+    ∙ ap (λ n. (48 + p / 10) ∷ n ∷ []) second
+
+-- the table of numbers has the first digit of a number and, if it has two, the second one
+abbrev is_first : ℕ → Bool
+is_first p = eqb (get_or NUMBERS (2 * p + 0) 0) (if ltb p 10 then 48 + p else 48 + p / 10)
+
+abbrev is_second : ℕ → Bool
+is_second p = if ltb p 10 then true else eqb (get_or NUMBERS (2 * p + 1) 0) (48 + p % 10)
+
+are_first : agree_below is_first (λ _. true) 100 ≡ true
+are_first = refl
+
+are_second : agree_below is_second (λ _. true) 100 ≡ true
+are_second = refl
+
+-- the digits of a number
+pub number_text : (p : ℕ) → p < 100 → take (length (decimal p)) (drop (2 * p) NUMBERS) ≡ decimal p
+number_text p lt =
+    let there : is_first p ≡ true = agree_below_at is_first (λ _. true) 100 p are_first lt in
+    let behind : is_second p ≡ true = agree_below_at is_second (λ _. true) 100 p are_second lt in
+    elim (cases_lt p 10) [
+      | inl few ↦
+          let first : get_or NUMBERS (2 * p + 0) 0 ≡ 48 + p = eqb-true _ _ (rw (lt-ltb p 10 few) at there) in
+          rw (decimal_digit p few) (one_at NUMBERS (2 * p) (omega (arith, lt)) ∙ ap (λ n. n ∷ []) first)
+      | inr many ↦
+          let first : get_or NUMBERS (2 * p + 0) 0 ≡ 48 + p / 10 = eqb-true _ _ (rw (le-ltb p 10 many) at there) in
+          let second : get_or NUMBERS (2 * p + 1) 0 ≡ 48 + p % 10 = eqb-true _ _ (rw (le-ltb p 10 many) at behind) in
+          rw (two_digits p many lt) (two_at NUMBERS (2 * p) (omega (arith, lt))
+          ∙ ap (λ n. n ∷ get_or NUMBERS (2 * p + 1) 0 ∷ []) first ∙ ap (λ n. (48 + p / 10) ∷ n ∷ []) second)
+    ]
+
+-- the first two digits of a number below 1,000, of which the first ones may be zeros
+pub fraction_pair : (n : ℕ) → n < 1000 → (48 + n / 10 / 10) ∷ (48 + n / 10 % 10) ∷ [] ≡ decimal (n / 100) ++ decimal (n / 10 % 10)
+fraction_pair n lt =
+    let first : n / 10 / 10 ≡ n / 100 = omega arith in
+    rw (decimal_digit (n / 100) (omega (arith, lt)), decimal_digit (n / 10 % 10) (omega arith), first) refl
