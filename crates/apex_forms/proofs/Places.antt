@@ -1,6 +1,6 @@
 -- Lists that are written place by place.
 use Rattle.std.proofs.Common.{◌≡◌, ℕ, ◌+◌, ◌*◌, ◌<◌, ◌≤◌, replicate, inl, inr, List, [], ◌∷◌, ◌++◌, length, get_or, set, take, drop, ap, sym, ◌∙◌, refl, arith, append_assoc, zero, suc, add-one, cond, nat_lt, nat_eq}
-use Rattle.apex_machine.specs.processes.Roster.{Roster, nobody, with_record}
+use Rattle.apex_machine.specs.processes.Roster.{Roster, with_record}
 use Rattle.apex_machine.specs.services.ProcessServices.{ProcessObject}
 use Rattle.apex_machine.specs.table.Table.{ProcessConfig, Table, no_process, process_config}
 use Rattle.apex_forms.specs.Objects.{process_from}
@@ -178,33 +178,3 @@ record_next table words old now new i p r in_table in_old is_now is_new is_p is_
     ∙ ap (λ (l : List Record). record old { records = l })
     (value_set (entry_record table words) table.processes old.records i no_process r in_table in_old
     is_r)
-
--- the record of a process, as it is
-abbrev pub as_is : ℕ → Record → Record
-as_is p r = r
-
-as_they_are : (p : ℕ) (rs : List Record) → map_places as_is p rs ≡ rs
-as_they_are p [] = refl
-as_they_are p (r ∷ rs) = ap (λ rest. r ∷ rest) (as_they_are (p + 1) rs)
-
--- the next process has the record of its place among others
-pub copied_next : (others : List Record) (old now new : Roster) (i p : ℕ) (r : Record)
-    → i < length others → i < length old.records
-    → now ≡ record old { records = map_places as_is 0 (take i others) ++ drop i old.records }
-    → new ≡ with_record now p r → p ≡ i → r ≡ get_or others i nobody
-    → new ≡ record old {
-      records = map_places as_is 0 (take (i + 1) others) ++ drop (i + 1) old.records;
-    }
-copied_next others old now new i p r in_others in_old is_now is_new is_p is_r =
-    is_new ∙ ap (λ (n : Roster). with_record n p r) is_now
-    ∙ ap (λ (k : ℕ). with_record (record old {
-      records = map_places as_is 0 (take i others) ++ drop i old.records;
-    }) k r) is_p
-    ∙ ap (λ (l : List Record). record old { records = l })
-    (value_set as_is others old.records i nobody r in_others in_old is_r)
-
--- all of them have those of the others
-pub copied_all : (others old : List Record) (i : ℕ) → length others ≤ i → length old ≤ i
-    → map_places as_is 0 (take i others) ++ drop i old ≡ others
-copied_all others old i no_more none_left =
-    values_all as_is others old i no_more none_left ∙ as_they_are 0 others

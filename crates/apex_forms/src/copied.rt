@@ -1,5 +1,5 @@
 //! A situation that is known, in the memory of another one of its table.
-ghost use Rattle.std.specs.Prelude.{◌≡◌, ℕ, length};
+ghost use Rattle.std.specs.Prelude.{◌≡◌, ℕ};
 ghost use Rattle.apex_types.specs.declared.limits.TheConstants.{MOST_CORES};
 ghost use Rattle.apex_choices.specs.Counts.{IsSamePaced, count_at, paced_in};
 ghost use Rattle.apex_dispatch.specs.Works.{work_at};
@@ -12,8 +12,8 @@ use apex_buffer::Buffer;
 use apex_choices::{Counts, PacedSituation};
 use apex_configs::Table;
 use apex_dispatch::{Objects, Situation, Works};
-use apex_store::{Object, PlainStore, Store};
-use apex_types::{CoreId, MOST_CORES, MOST_MESSAGES, Message, ProcessId};
+use apex_store::{Object, Store};
+use apex_types::{CoreId, MOST_CORES, MOST_MESSAGES, Message};
 use arrayvec::ArrayVec;
 
 /// The messages of the buffer.
@@ -66,17 +66,6 @@ fn copy_objects(objects: &mut Objects, others: &Objects)
         .copy_from_slice(others.mutexes.as_slice());
 }
 
-/// The processes have the records of these others from now on.
-fn copy_records(store: &mut PlainStore, others: &PlainStore)
-    requires { length store.old.records ≡ length others.now.records }
-    ensures { store.new ≡ record store.old { records = others.now.records } }
-{
-    for place in 0..others.process_count() {
-        let process = ProcessId::at(place as u8);
-        store.put(process, *others.record(process));
-    }
-}
-
 /// The work of each core, as it is in this situation.
 fn works_of(paced: &PacedSituation) -> Works
     ensures { (core : ℕ) → work_at result core
@@ -120,7 +109,7 @@ pub fn restore_known(
     let PacedSituation { situation, .. } = paced;
     let (mut store, mut objects, _, _) = situation.into_parts();
     let young = first_stamp(store.process_count());
-    copy_records(&mut store, known.situation.store());
+    store.put_all(known.situation.store());
     store.set_clock(mode_in(words[0]), words[1], young, 0);
     copy_objects(&mut objects, known.situation.objects());
     PacedSituation {

@@ -4,14 +4,14 @@ use Rattle.std.specs.Prelude.{decimal}
 use Rattle.itoa.proofs.Decimal.{decimal_pair, decimal_two}
 use Rattle.std.proofs.lemmas.Fmt.{decimal_digit}
 use lib.Ieee.Fits.{and_l, and_r}
-use Rattle.apex_history.specs.declared.puts.TheConstants.{PAIRS}
+use Rattle.apex_history.specs.declared.puts.TheConstants.{DIGIT_PAIRS}
 
 -- the first n pairs of the table are the digits of their places
 abbrev are_pairs : ℕ → Bool
 are_pairs zero = true
-are_pairs (suc p) = (eqb (get_or PAIRS (p * 2) 0) (48 + p / 10) && eqb (get_or PAIRS (p * 2 + 1) 0) (48 + p % 10)) && are_pairs p
+are_pairs (suc p) = (eqb (get_or DIGIT_PAIRS (p * 2) 0) (48 + p / 10) && eqb (get_or DIGIT_PAIRS (p * 2 + 1) 0) (48 + p % 10)) && are_pairs p
 
-pair_below : (n p : ℕ) → T (are_pairs n) → p < n → (get_or PAIRS (p * 2) 0 ≡ 48 + p / 10) × (get_or PAIRS (p * 2 + 1) 0 ≡ 48 + p % 10)
+pair_below : (n p : ℕ) → T (are_pairs n) → p < n → (get_or DIGIT_PAIRS (p * 2) 0 ≡ 48 + p / 10) × (get_or DIGIT_PAIRS (p * 2 + 1) 0 ≡ 48 + p % 10)
 pair_below zero p t lt = absurd (omega arith)
 pair_below (suc n) p t lt =
     elim (eq-zero-or-pos (n - p)) [
@@ -20,7 +20,7 @@ pair_below (suc n) p t lt =
     ]
 
 -- the two digits of a number below 100
-pub pair_at : (p : ℕ) → p < 100 → (get_or PAIRS (p * 2) 0 ≡ 48 + p / 10) × (get_or PAIRS (p * 2 + 1) 0 ≡ 48 + p % 10)
+pub pair_at : (p : ℕ) → p < 100 → (get_or DIGIT_PAIRS (p * 2) 0 ≡ 48 + p / 10) × (get_or DIGIT_PAIRS (p * 2 + 1) 0 ≡ 48 + p % 10)
 pair_at p lt = pair_below 100 p tt lt
 
 -- a number of two digits

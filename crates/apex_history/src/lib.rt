@@ -27,7 +27,7 @@ pub use histories::Log;
 pub use lent::Entries;
 pub use pages::Page;
 pub use printing::{print_entry, print_history};
-pub use puts::{LINES_ROOM, Lines, put_call_of, put_line, put_reply_of};
+pub use puts::{DIGIT_PAIRS, LINES_ROOM, Lines, put_call_of, put_line, put_reply_of};
 pub use reading::{ReadFault, read_all};
 pub use sources::{Sink, Source};
 pub use status::{gather_row, print_row};

@@ -45,8 +45,9 @@ const NOTICE_ROOM: usize = 27;
 /// The most bytes of the notices of an entry.
 const NOTICES_ROOM: usize = NOTICE_ROOM * MOST_NOTICES;
 
-/// The two digits of each number below 100.
-static PAIRS: [u8; 200] =
+/// The two digits of each number below 100, of which the first one may be a zero: those of `number`
+/// are at `2 * number`.
+pub static DIGIT_PAIRS: [u8; 200] =
     *b"00010203040506070809101112131415161718192021222324252627282930313233343536373839404142434445464748495051525354555657585960616263646566676869707172737475767778798081828384858687888990919293949596979899";
 
 /// Lines of a history, one behind the other: a buffer of at most [`LINES_ROOM`] bytes, of which a
@@ -113,7 +114,7 @@ fn pair(number: u8) -> (u8, u8)
     ensures { result ≡ (48 + number / 10, 48 + number % 10) }
 {
     let from = usize::from(number) * 2;
-    (PAIRS[from], PAIRS[from + 1])
+    (DIGIT_PAIRS[from], DIGIT_PAIRS[from + 1])
 }
 
 /// Those two digits.

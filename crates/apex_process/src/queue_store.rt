@@ -157,6 +157,10 @@ impl Store for QueueStore {
         self.records.record(process)
     }
 
+    fn records(&self) -> &[Record] {
+        self.records.records()
+    }
+
     fn chosen(&self, core: CoreId) -> Option<ProcessId> {
         self.lists.top(core)
     }

@@ -12,6 +12,9 @@ use apex_types::{
 use std::alloc::Global;
 use std::process::Abort;
 
+/// The most rows of a history.
+const MOST_ROWS: u32 = 32;
+
 /// What a row's call asks for.
 #[derive(Clone, Copy)]
 pub(crate) enum Asked {
@@ -174,7 +177,7 @@ fn push_row<R: Abort>(rt: &R, log: &mut Log, row: &Row) {
 
 /// A log with the entries of these rows.
 pub(crate) fn log_of<R: Abort>(rt: &R, alloc: Global, rows: &[Row]) -> Log {
-    let mut log = Log::new(alloc, 32).expect(rt, "memory");
+    let mut log = Log::new(alloc, MOST_ROWS).expect(rt, "memory");
     for row in rows {
         push_row(rt, &mut log, row);
     }

@@ -1,4 +1,5 @@
 pub mod Comparing
+pub mod Filling
 pub mod Fronts
 pub mod Gathering
 pub mod Halving

@@ -7,7 +7,7 @@ use Rattle.std.proofs.lemmas.Nat.{mul-le}
 use Rattle.std.specs.List.{fold, slice_get, slice_set}
 use Rattle.std.specs.Option.{option_map}
 use Rattle.apex_states.specs.declared.index.Slot.{Slot}
-use Rattle.apex_states.specs.Index.{after, cell_after, hash_of, hashed, home_of, mixed, place_in, taken_in, IsFound, IsIndexed, IsKnown, IsOther, IsVacant}
+use Rattle.apex_states.specs.Index.{after, cell_after, hash_of, hashed, home_of, mixed, place_in, taken_in, IsFound, IsIndexed, IsKnown, IsOpen, IsOther, IsVacant}
 
 -- How many cells are taken.
 
@@ -104,6 +104,10 @@ pub slot_below : (size home steps slot : ℕ) (k : List ℕ) → 0 < size → ho
 slot_below size home steps slot k positive home_is short slot_is =
     rw (slot_is, home_is) (after_below size (home_of size k) steps (home_below size k positive) short)
 
+pub open_below : (cells : List (Option ℕ)) (k : List ℕ) (cell : ℕ) → IsOpen cells k cell → cell < length cells
+open_below cells k cell opened =
+    rw (opened.is) (after_below (length cells) (home_of (length cells) k) opened.steps (home_below (length cells) k (omega (arith, opened.short))) opened.short)
+
 -- What the index keeps.
 
 pub IsIndexed-start : (n : ℕ) → IsIndexed (replicate n None) []
@@ -139,6 +143,21 @@ not_known cells states k steps indexed free way (place, is) =
       ]
     ]
 
+-- where fewer cells are taken than there are, the way comes to a free one
+pub way_ends : (cells : List (Option ℕ)) (k : List ℕ)
+    → taken_in cells < length cells
+    → ((i : ℕ) → i < length cells → (p : ℕ) × (slice_get cells (cell_after cells k i) ≡ Some (Some p)))
+    → ⊥
+way_ends cells k fewer way =
+    let home = home_below (length cells) k (omega arith) in
+    let each : (cell : ℕ) → cell < length cells → (p : ℕ) × (slice_get cells cell ≡ Some (Some p)) = λ cell below.
+    let at = after_onto (length cells) (home_of (length cells) k) cell home below in
+    let taken = way at.0 at.1 in
+    let here : slice_get cells cell ≡ Some (Some taken.0) = rw at.2 at taken.1 in
+    (taken.0, here)
+    in
+    omega (arith, all_taken cells each)
+
 -- where fewer states than cells are indexed, some cell is free
 pub some_free : (cells : List (Option ℕ)) (states : List (List ℕ)) (k : List ℕ)
     → IsIndexed cells states
@@ -146,14 +165,17 @@ pub some_free : (cells : List (Option ℕ)) (states : List (List ℕ)) (k : List
     → ((i : ℕ) → i < length cells → IsOther cells states k (cell_after cells k i))
     → ⊥
 some_free cells states k indexed fewer way =
-    let home = home_below (length cells) k (omega arith) in
-    let each : (cell : ℕ) → cell < length cells → (p : ℕ) × (slice_get cells cell ≡ Some (Some p)) = λ cell below.
-    let at = after_onto (length cells) (home_of (length cells) k) cell home below in
-    let other = way at.0 at.1 in
-    let here : slice_get cells cell ≡ Some (Some other.place) = rw at.2 at other.here in
-    (other.place, here)
-    in
-    omega (arith, all_taken cells each, indexed.taken)
+    way_ends cells k (omega (arith, indexed.taken)) (λ i lt. let other = way i lt in (other.place, other.here))
+
+-- the cell of a new state is open for it
+pub IsOpen-vacant : (cells : List (Option ℕ)) (states : List (List ℕ)) (k : List ℕ) (cell : ℕ) → IsVacant cells states k cell → IsOpen cells k cell
+IsOpen-vacant cells states k cell vacant = record {
+  steps = vacant.steps;
+  short = vacant.short;
+  is = vacant.is;
+  free = vacant.free;
+  way = λ i lt. let other = vacant.way i lt in (other.place, other.here);
+}
 
 -- cells that keep all that is taken keep what is found
 IsFound-carry : (cells cells' : List (Option ℕ)) (k : List ℕ) (place : ℕ)
@@ -194,7 +216,7 @@ last_or_before (s ∷ states) k (suc place) other is =
 -- a state is put into the cell to which the way from its home comes
 pub IsIndexed-enter : (cells : List (Option ℕ)) (states : List (List ℕ)) (k : List ℕ) (cell : ℕ)
     → IsIndexed cells states
-    → IsVacant cells states k cell
+    → IsOpen cells k cell
     → IsIndexed (slice_set cells cell (Some (length states))) (states ++ k ∷ [])
 IsIndexed-enter cells states k cell indexed vacant =
     let n : ℕ = length states in
@@ -203,7 +225,7 @@ IsIndexed-enter cells states k cell indexed vacant =
     let keeps = λ (other p : ℕ) (is : slice_get cells other ≡ Some (Some p)). get_beside cells cell other p (Some n) vacant.free is in
     let At : ℕ → Type 0 = λ c. slice_get (slice_set cells cell (Some n)) c ≡ Some (Some n) in
     let here = subst At vacant.is (get_set cells cell None (Some n) vacant.free) in
-    let newest = IsFound-new cells cells' k n vacant.steps long vacant.short (λ i lt. let o = vacant.way i lt in (o.place, keeps (cell_after cells k i) o.place o.here)) here in
+    let newest = IsFound-new cells cells' k n vacant.steps long vacant.short (λ i lt. let o = vacant.way i lt in (o.0, keeps (cell_after cells k i) o.0 o.1)) here in
     record {
       found = λ place other is.
           elim (last_or_before states k place other is) [
@@ -261,6 +283,47 @@ vacant_at slots states k size home steps slot read indexed size_is home_is short
       way = way;
       new = not_known (map place_in slots) states k steps indexed (rw (← at) is) way;
     }
+
+pub open_at : (slots : List Slot) (k : List ℕ) (size home steps slot : ℕ) (read : Slot)
+    → size ≡ length slots
+    → home ≡ home_of size k
+    → steps < size
+    → slot ≡ after size home steps
+    → slot < length slots
+    → read ≡ slice_index_or slots slot read
+    → place_in read ≡ None
+    → ((i : ℕ) → i < steps → (p : ℕ) × (slice_get (map place_in slots) (cell_after (map place_in slots) k i) ≡ Some (Some p)))
+    → IsOpen (map place_in slots) k slot
+open_at slots k size home steps slot read size_is home_is short slot_is below is_read free way =
+    let long : length (map place_in slots) ≡ size = length-map slots place_in ∙ sym size_is in
+    record {
+      steps = steps;
+      short = omega arith;
+      is = rw (long, ← home_is) slot_is;
+      free = cell_of slots slot read None below is_read free;
+      way = way;
+    }
+
+pub taken_at : (slots : List Slot) (k : List ℕ) (size home steps slot place : ℕ) (read : Slot)
+    → size ≡ length slots
+    → home ≡ home_of size k
+    → slot ≡ after size home steps
+    → slot < length slots
+    → read ≡ slice_index_or slots slot read
+    → place_in read ≡ Some place
+    → ((i : ℕ) → i < steps → (p : ℕ) × (slice_get (map place_in slots) (cell_after (map place_in slots) k i) ≡ Some (Some p)))
+    → (i : ℕ) → i < steps + 1 → (p : ℕ) × (slice_get (map place_in slots) (cell_after (map place_in slots) k i) ≡ Some (Some p))
+taken_at slots k size home steps slot place read size_is home_is slot_is below is_read taken way i lt =
+    elim (cases_lt i steps) [
+      | inl before ↦ way i before
+      | inr ge ↦
+          let e : steps ≡ i = omega arith in
+          let long : length (map place_in slots) ≡ size = length-map slots place_in ∙ sym size_is in
+          let at : slot ≡ cell_after (map place_in slots) k steps = rw (long, ← home_is) slot_is in
+          let Here : ℕ → Type 0 = λ c. (p : ℕ) × (slice_get (map place_in slots) c ≡ Some (Some p)) in
+          let At : ℕ → Type 0 = λ n. Here (cell_after (map place_in slots) k n) in
+          subst At e (subst Here at (place, cell_of slots slot read (Some place) below is_read taken))
+    ]
 
 pub other_at : (slots : List Slot) (states : List (List ℕ)) (k : List ℕ) (size home steps slot place : ℕ) (read : Slot) (row : List ℕ)
     → size ≡ length slots

@@ -1,16 +1,18 @@
 -- Rows, each once, to which one is added.
-use Rattle.std.proofs.Common.{◌≡◌, ◌≢◌, ℕ, zero, suc, ◌+◌, ◌*◌, ◌^◌, ◌<◌, ◌≤◌, List, [], ◌∷◌, ◌++◌, length, length-append, replicate, take, Option, None, Some, refl, sym, ap, ◌∙◌, subst, arith, inl, inr, get_or}
-use Rattle.std.proofs.lemmas.List.{length-replicate, length-take-le, take_all}
+use Rattle.std.proofs.Common.{◌≡◌, ◌≢◌, ℕ, zero, suc, ◌+◌, ◌^◌, ◌<◌, ◌≤◌, List, [], ◌∷◌, ◌++◌, length, length-append, take, Option, Some, refl, sym, ap, ◌∙◌, subst, arith, inl, inr, get_or}
+use Rattle.std.proofs.lemmas.List.{length-map, length-take-le, take_all}
 use Rattle.std.proofs.lemmas.Option.{slice_get-get_or, slice_get_within}
 use Rattle.std.specs.List.{slice_get, slice_set, AllPairs}
-use Rattle.apex_states.specs.Index.{IsKnown, IsVacant}
+use Rattle.std.specs.Vec.{vec_capacity}
+use Rattle.apex_states.specs.Index.{cells_of, place_in, IsIndexed, IsKnown, IsStart, IsVacant}
+use Rattle.apex_states.specs.declared.index.Index.{Index}
 use Rattle.apex_states.specs.Lists.{IsFront}
 use Rattle.apex_states.specs.Registers.{AreApart, IsEntered, IsGrown, IsRegistered}
 use Rattle.apex_states.specs.Rows.{Packed}
 use Rattle.apex_states.specs.declared.registers.Entered.{Entered}
 use Rattle.apex_states.specs.declared.registers.Entered.TheVariants.{Known, New, Full}
 use Rattle.apex_states.proofs.Fronts.{IsFront-push, IsFront-refl}
-use Rattle.apex_states.proofs.Probing.{last_or_before, length_set, IsIndexed-enter, IsIndexed-start}
+use Rattle.apex_states.proofs.Probing.{last_or_before, length_set, IsIndexed-enter, IsIndexed-start, IsOpen-vacant}
 
 -- a new row is apart from the others
 pub AreApart-push : (rows : List (List ℕ)) (n : List ℕ) → AreApart rows → (IsKnown rows n → ⊥) → AreApart (rows ++ n ∷ [])
@@ -33,34 +35,54 @@ AllPairs-from_apart rows apart = λ i j d before within same.
     let e : i ≡ j = apart i j (get_or rows i d) one (other ∙ ap Some (sym same)) in
     omega arith
 
-pub IsRegistered-start : (width room : ℕ) (rows : Packed) (cells : List (Option ℕ))
+pub IsRegistered-start : (width room : ℕ) (rows : Packed) (index : Index)
     → rows ≡ record { width = width; room = room; rows = [] }
-    → cells ≡ replicate (2 * room + 1) None
+    → IsStart index room
     → room < 2 ^ 32
-    → IsRegistered rows cells
-IsRegistered-start width room rows cells rows_is cells_is few = rw (rows_is, cells_is) (start) where
-  start : IsRegistered (record { width = width; room = room; rows = [] }) (replicate (2 * room + 1) None)
-  start = record {
+    → IsRegistered rows (cells_of index) (vec_capacity index.slots)
+IsRegistered-start width room rows index rows_is start few = rw rows_is (started) where
+  started : IsRegistered (record { width = width; room = room; rows = [] }) (cells_of index) (vec_capacity index.slots)
+  started = record {
     apart = λ i j k one other. cc;
-    indexed = IsIndexed-start (2 * room + 1);
-    vacant = omega (arith, length-replicate {A = Option ℕ} (2 * room + 1) None);
+    indexed = rw (start.vacant) (IsIndexed-start (length index.slots.items));
+    vacant = omega (arith, start.some, length-map index.slots.items place_in);
+    enough = start.memory;
     within = omega arith;
     few = few;
   }
 
-pub IsRegistered-enter : (rows : Packed) (cells : List (Option ℕ)) (k : List ℕ) (slot : ℕ) (rows' : Packed) (cells' : List (Option ℕ))
-    → IsRegistered rows cells
+-- the rows stay, and their places are put into other cells
+pub IsRegistered-filled : (rows : Packed) (cells cells' : List (Option ℕ)) (memory memory' : ℕ)
+    → IsRegistered rows cells memory
+    → IsIndexed cells' rows.rows
+    → length rows.rows < length cells'
+    → memory ≤ memory'
+    → IsRegistered rows cells' memory'
+IsRegistered-filled rows cells cells' memory memory' old indexed vacant more = record {
+  apart = old.apart;
+  indexed = indexed;
+  vacant = vacant;
+  enough = omega (arith, old.enough);
+  within = old.within;
+  few = old.few;
+}
+
+pub IsRegistered-enter : (rows : Packed) (cells : List (Option ℕ)) (memory : ℕ) (k : List ℕ) (slot : ℕ) (rows' : Packed) (cells' : List (Option ℕ)) (memory' : ℕ)
+    → IsRegistered rows cells memory
     → IsVacant cells rows.rows k slot
     → length rows.rows < rows.room
+    → length rows.rows + 1 < length cells
     → rows' ≡ record rows { rows = rows.rows ++ k ∷ [] }
     → cells' ≡ slice_set cells slot (Some (length rows.rows))
-    → IsRegistered rows' cells'
-IsRegistered-enter rows cells k slot rows' cells' old vacant room rows_is cells_is = rw (rows_is, cells_is) (entered) where
-  entered : IsRegistered (record rows { rows = rows.rows ++ k ∷ [] }) (slice_set cells slot (Some (length rows.rows)))
+    → memory' ≡ memory
+    → IsRegistered rows' cells' memory'
+IsRegistered-enter rows cells memory k slot rows' cells' memory' old vacant room wide rows_is cells_is memory_is = rw (rows_is, cells_is, memory_is) (entered) where
+  entered : IsRegistered (record rows { rows = rows.rows ++ k ∷ [] }) (slice_set cells slot (Some (length rows.rows))) memory
   entered = record {
     apart = AreApart-push rows.rows k old.apart vacant.new;
-    indexed = IsIndexed-enter cells rows.rows k slot old.indexed vacant;
-    vacant = omega (arith, length_set cells slot (Some (length rows.rows)), old.vacant);
+    indexed = IsIndexed-enter cells rows.rows k slot old.indexed (IsOpen-vacant cells rows.rows k slot vacant);
+    vacant = omega (arith, length_set cells slot (Some (length rows.rows)), length-append rows.rows (k ∷ []));
+    enough = old.enough;
     within = omega (arith, length-append rows.rows (k ∷ []));
     few = old.few;
   }
@@ -100,7 +122,7 @@ get_take (suc n) [] i k is = cc
 get_take (suc n) (row ∷ rows) zero k is = (omega arith, is)
 get_take (suc n) (row ∷ rows) (suc i) k is = let deeper = get_take n rows i k is in (omega (arith, deeper.0), deeper.1)
 
-take_next : (n : ℕ) (rows : List (List ℕ)) (k : List ℕ) → slice_get rows n ≡ Some k → take (suc n) rows ≡ take n rows ++ k ∷ []
+pub take_next : (n : ℕ) (rows : List (List ℕ)) (k : List ℕ) → slice_get rows n ≡ Some k → take (suc n) rows ≡ take n rows ++ k ∷ []
 take_next zero [] k is = cc
 take_next zero (row ∷ rows) k is = cc
 take_next (suc n) [] k is = cc

@@ -1,5 +1,5 @@
 -- The index of the states: a list of cells, each with the place of a state or none.
-use Rattle.std.specs.Prelude.{◌≡◌, ◌≢◌, ℕ, ◌+◌, ◌-◌, ◌*◌, ◌/◌, ◌%◌, ◌^◌, ◌<◌, ◌==◌, nat_lt, if◌then◌else◌, bit_xor, zero, suc, get_or, List, [], ◌∷◌, drop, length, map, slice_get, Option, Some, None}
+use Rattle.std.specs.Prelude.{◌≡◌, ◌≢◌, ℕ, ◌+◌, ◌-◌, ◌*◌, ◌/◌, ◌%◌, ◌^◌, ◌<◌, ◌≤◌, ◌==◌, nat_lt, if◌then◌else◌, bit_xor, zero, suc, get_or, List, [], ◌∷◌, drop, length, map, replicate, slice_get, vec_capacity, Option, Some, None}
 use Rattle.std.specs.List.{fold}
 use Rattle.apex_states.specs.declared.index.Found.{Found}
 use Rattle.apex_states.specs.declared.index.Found.TheVariants.{At, Nowhere}
@@ -14,6 +14,12 @@ place_in slot = if slot.code == 0 then None else Some (slot.code - 1)
 -- the cells of an index
 abbrev pub cells_of : Index → List (Option ℕ)
 cells_of index = map place_in index.slots.items
+
+-- vacant cells alone, and memory for as many as this many states need
+pub record IsStart (index : Index) (room : ℕ) : Type 0 where
+  pub some : 0 < length index.slots.items
+  pub vacant : cells_of index ≡ replicate (length index.slots.items) None
+  pub memory : 2 * room + 1 ≤ vec_capacity index.slots
 
 -- the hash so far and one more word
 abbrev pub mixed : ℕ → ℕ → ℕ
@@ -73,6 +79,15 @@ module _ (cells : List (Option ℕ)) where
     pub found : (place : ℕ) (k : List ℕ) → slice_get states place ≡ Some k → IsFound k place
     pub known : (cell place : ℕ) → slice_get cells cell ≡ Some (Some place) → place < length states
     pub taken : taken_in cells ≡ length states
+
+  -- the cell is free, and all from the home of the state up to it are taken
+  pub record IsOpen (k : List ℕ) (cell : ℕ) : Type 0 where
+    pub steps : ℕ
+    pub short : steps < length cells
+    pub is : cell ≡ cell_after k steps
+    pub free : slice_get cells cell ≡ Some None
+    pub way : (i : ℕ) → i < steps
+        → (other : ℕ) × (slice_get cells (cell_after k i) ≡ Some (Some other))
 
   -- another state has its place in this cell
   pub record IsOther (states : List (List ℕ)) (k : List ℕ) (cell : ℕ) : Type 0 where

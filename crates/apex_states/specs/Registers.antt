@@ -1,5 +1,5 @@
 -- Rows of words, each once, as contracts see them and as they are kept.
-use Rattle.std.specs.Prelude.{◌≡◌, ℕ, ◌^◌, ◌<◌, ◌≤◌, List, [], ◌∷◌, ◌++◌, length, slice_get, Option, Some}
+use Rattle.std.specs.Prelude.{◌≡◌, ℕ, ◌+◌, ◌*◌, ◌^◌, ◌<◌, ◌≤◌, List, [], ◌∷◌, ◌++◌, length, slice_get, Option, Some}
 use Rattle.apex_states.specs.declared.registers.Entered.{Entered}
 use Rattle.apex_states.specs.declared.registers.Entered.TheVariants.{Known, New, Full}
 use Rattle.apex_states.specs.Index.{IsIndexed, IsKnown}
@@ -10,11 +10,13 @@ abbrev pub AreApart : List (List ℕ) → Type 0
 AreApart rows = (first second : ℕ) (k : List ℕ)
     → slice_get rows first ≡ Some k → slice_get rows second ≡ Some k → first ≡ second
 
--- the rows are apart and indexed, and there is room for as many as the index has cells for
-pub record IsRegistered (rows : Packed) (cells : List (Option ℕ)) : Type 0 where
+-- the rows are apart and indexed, a cell is vacant, and the index has memory for as many cells as all
+-- rows need that there is room for
+pub record IsRegistered (rows : Packed) (cells : List (Option ℕ)) (memory : ℕ) : Type 0 where
   pub apart : AreApart rows.rows
   pub indexed : IsIndexed cells rows.rows
-  pub vacant : rows.room < length cells
+  pub vacant : length rows.rows < length cells
+  pub enough : 2 * rows.room + 1 ≤ memory
   pub within : length rows.rows ≤ rows.room
   pub few : rows.room < 2 ^ 32
 

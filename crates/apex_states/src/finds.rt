@@ -6,14 +6,27 @@ ghost use Rattle.apex_states.specs.Index.{IsKnown};
 use crate::index::home;
 use crate::rows::Rows;
 use crate::states::Origin;
+use crate::words::are_same;
 use std::alloc::{AllocError, Global};
 use std::marker::Model;
 
 /// The number of slots for states that were found a short time before.
 const SLOTS: usize = 16384;
 
+/// The number of marks. Of two states that differ, few have the same one.
+const MARKS: usize = 0x1_0000_0000;
+
 /// For at most this many states room is taken at first.
 const MOST_AT_FIRST: usize = 4096;
+
+/// A state that was found a short time before.
+#[derive(Clone, Copy)]
+struct Recent {
+    /// The low bits of its place. If states were cleared, another one can be there now, or none.
+    place: u32,
+    /// Its mark. No state with another one is compared with it.
+    mark: u32,
+}
 
 /// States in the order in which they were found, and the origin of each. One can be there more than
 /// once, but seldom is if it was found a short time before.
@@ -21,9 +34,8 @@ const MOST_AT_FIRST: usize = 4096;
 pub struct Finds {
     states: Rows,
     origins: Vec<Origin>,
-    /// The place of the last state for which there was this slot, by a hash of its words. If states were
-    /// cleared, it can be that of one of these: so the state that is there now is compared.
-    recent: Vec<usize>,
+    /// The last state for which there was this slot, by a hash of its words.
+    recent: Vec<Recent>,
 }
 
 impl Model for Finds {
@@ -51,7 +63,7 @@ impl Finds {
         Ok(Finds {
             states: Rows::new(alloc, width, room)?,
             origins: Vec::new(alloc),
-            recent: vec![in alloc; 0; SLOTS]?,
+            recent: vec![in alloc; Recent { place: 0, mark: 0 }; SLOTS]?,
         })
     }
 
@@ -96,14 +108,13 @@ impl Finds {
         self.origins.as_slice()
     }
 
-    /// The state is the last one for which there was this slot.
-    fn is_recent(&self, slot: usize, state: &[u64]) -> bool
+    /// The state, which has this mark, is this one that was found a short time before.
+    fn is_at(&self, recent: Recent, state: &[u64], mark: u32) -> bool
+        requires { length state.now ≡ self.now.width }
         ensures { result ≡ true → IsKnown self.now.states state.now }
     {
-        match self.recent.get(slot) {
-            Some(place) if *place < self.origins.len() => self.states.row(*place) == state,
-            _ => false,
-        }
+        let place = recent.place as usize;
+        recent.mark == mark && place < self.origins.len() && are_same(self.states.row(place), state)
     }
 
     /// Puts the state behind the others, unless it is there and was found a short time before. Fails only
@@ -112,16 +123,21 @@ impl Finds {
         requires { length state.now ≡ self.old.width }
         ensures { IfOk result (λ _. IsPut self.old state.now origin self.new) }
     {
-        let slot = home(state, SLOTS);
-        if self.is_recent(slot, state) {
-            return Ok(());
+        let hash = home(state, SLOTS * MARKS);
+        let (slot, mark) = (hash / MARKS, (hash % MARKS) as u32);
+        match self.recent.get(slot) {
+            Some(recent) if self.is_at(*recent, state, mark) => return Ok(()),
+            _ => {}
         }
         let place = self.origins.len();
         self.origins.reserve(1)?;
         self.states.push_more(state)?;
         self.origins.push_reserved(origin);
         if slot < self.recent.len() {
-            self.recent[slot] = place;
+            self.recent[slot] = Recent {
+                place: (place % MARKS) as u32,
+                mark,
+            };
         }
         Ok(())
     }

@@ -1,8 +1,10 @@
 //! Which rows are there already: their places, by a hash of their words.
-ghost use Rattle.std.specs.Prelude.{◌≡◌, ◌<◌, ◌+◌, ◌*◌, length, replicate, None, Some, slice_set, IfOk};
-ghost use Rattle.apex_states.specs.Index.{after, cells_of, hashed_four, home_of, mixed, place_in, IsFoundAmong, IsIndexed};
+ghost use Rattle.std.specs.Prelude.{◌≡◌, ◌<◌, ◌≤◌, ◌+◌, ◌*◌, length, None, Some, slice_set, vec_capacity, IfOk};
+ghost use Rattle.apex_states.specs.Index.{after, cells_of, hashed_four, home_of, mixed, place_in, taken_in, IsFoundAmong, IsIndexed, IsOpen, IsStart};
+ghost use Rattle.apex_states.specs.Registers.{IsRegistered};
 
 use crate::rows::Rows;
+use crate::words::are_same;
 use std::alloc::{AllocError, Global};
 
 /// An odd number whose bits look random.
@@ -96,26 +98,33 @@ fn slot_after(size: usize, slot: usize, steps: usize) -> usize
     }
 }
 
-/// A slot for each row that there is room for, and as many vacant ones.
+/// There are at most as many slots at first.
+const FIRST_SLOTS: usize = 0x1_0000;
+
+/// Slots of which about half are taken at most. The memory for all is taken when the value is made,
+/// but there are only as many as the rows need so far: the fewer they are, the more of them stay in
+/// a cache.
 #[derive(Drop)]
 pub(crate) struct Index {
     slots: Vec<Slot>,
 }
 
 impl Index {
-    /// Vacant slots, for at most `room` rows. Fails only for want of memory.
+    /// Vacant slots, and memory for those that `room` rows need. Fails only for want of memory.
     pub(crate) fn new(alloc: Global, room: u32) -> Result<Index, AllocError>
-        ensures { IfOk result (λ index. cells_of index ≡ replicate (2 * room + 1) None) }
+        ensures { IfOk result (λ index. IsStart index room) }
     {
-        Ok(Index {
-            slots: vec![in alloc; VACANT; 2 * room as usize + 1]?,
-        })
+        let most = 2 * room as usize + 1;
+        let mut slots = Vec::with_capacity(alloc, most)?;
+        slots.resize(most.min(FIRST_SLOTS), VACANT)?;
+        Ok(Index { slots })
     }
 
     /// Where this row is among the rows, or the slot that is free for it.
     pub(crate) fn find(&self, rows: &Rows, row: &[u64]) -> Found
         requires indexed { IsIndexed (cells_of self.now) rows.now.rows }
         requires vacant { length rows.now.rows < length self.now.slots.items }
+        requires width { length row.now ≡ rows.now.width }
         ensures { IsFoundAmong (cells_of self.now) rows.now.rows row.now result }
     {
         let size = self.slots.len();
@@ -124,7 +133,7 @@ impl Index {
             let slot = slot_after(size, home, steps);
             match self.slots[slot].place() {
                 None => return Found::Nowhere(slot),
-                Some(place) if rows.row(place) == row => return Found::At(place),
+                Some(place) if are_same(rows.row(place), row) => return Found::At(place),
                 Some(_) => {}
             }
         }
@@ -135,8 +144,60 @@ impl Index {
     pub(crate) fn enter(&mut self, slot: usize, place: u32)
         requires slot { slot < length self.old.slots.items }
         requires place { place < u32.MAX }
-        ensures { cells_of self.new ≡ slice_set (cells_of self.old) slot (Some place) }
+        ensures cells { cells_of self.new ≡ slice_set (cells_of self.old) slot (Some place) }
+        ensures memory { vec_capacity self.new.slots ≡ vec_capacity self.old.slots }
     {
         self.slots[slot] = Slot::of(place);
+    }
+
+    /// The slot that is free for a row which has none.
+    fn free(&self, row: &[u64]) -> usize
+        requires { taken_in (cells_of self.now) < length self.now.slots.items }
+        ensures { IsOpen (cells_of self.now) row.now result }
+    {
+        let size = self.slots.len();
+        let home = home(row, size);
+        for steps in 0..size {
+            let slot = slot_after(size, home, steps);
+            match self.slots[slot].place() {
+                None => return slot,
+                Some(_) => {}
+            }
+        }
+        unreachable!()
+    }
+
+    /// As many slots as this, with the places of all rows.
+    fn fill(&mut self, rows: &Rows, size: usize)
+        requires size { length rows.now.rows < size }
+        requires few { length rows.now.rows ≤ u32.MAX }
+        requires memory { size ≤ vec_capacity self.old.slots }
+        ensures indexed { IsIndexed (cells_of self.new) rows.now.rows }
+        ensures size { length self.new.slots.items ≡ size }
+        ensures memory { vec_capacity self.old.slots ≤ vec_capacity self.new.slots }
+    {
+        self.slots.clear();
+        match self.slots.resize(size, VACANT) {
+            Ok(()) => {}
+            Err(AllocError) => unreachable!(),
+        }
+        for place in 0..rows.len() {
+            let slot = self.free(rows.row(place));
+            self.enter(slot, place as u32);
+        }
+    }
+
+    /// More slots if half of them are nearly taken, up to those that there is memory for.
+    pub(crate) fn widen(&mut self, rows: &Rows)
+        requires { IsRegistered rows.now (cells_of self.old) (vec_capacity self.old.slots) }
+        ensures kept { IsRegistered rows.now (cells_of self.new) (vec_capacity self.new.slots) }
+        ensures wide { length rows.now.rows < rows.now.room
+            → length rows.now.rows + 1 < length self.new.slots.items }
+    {
+        let most = 2 * rows.room() + 1;
+        let size = self.slots.len();
+        if 2 * rows.len() + 1 >= size && size < most {
+            self.fill(rows, most.min(2 * size));
+        }
     }
 }

@@ -35,6 +35,7 @@ pub(crate) struct Register {
 }
 
 impl Model for Register {
+    ghost use Rattle.std.specs.Prelude.{vec_capacity};
     ghost use Rattle.apex_states.specs.Index.{cells_of};
     ghost use Rattle.apex_states.specs.Registers.{IsRegistered};
     ghost use Rattle.apex_states.specs.Rows.{Packed};
@@ -43,7 +44,8 @@ impl Model for Register {
 
     ghost view = { λ r. r.rows };
 
-    ghost invariant = { λ r. IsRegistered r.rows (cells_of r.index) };
+    ghost invariant = { λ r.
+        IsRegistered r.rows (cells_of r.index) (vec_capacity r.index.slots) };
 }
 
 impl Register {
@@ -79,6 +81,7 @@ impl Register {
         requires { length row.now ≡ self.old.width }
         ensures { IsEntered self.old row.now result self.new }
     {
+        self.index.widen(&self.rows);
         let slot = match self.index.find(&self.rows, row) {
             Found::At(place) => return Entered::Known(place as u32),
             Found::Nowhere(slot) => slot,

@@ -64,6 +64,12 @@ impl Rows {
         self.width
     }
 
+    pub(crate) fn room(&self) -> usize
+        ensures { result ≡ self.now.room }
+    {
+        self.room
+    }
+
     pub(crate) fn len(&self) -> usize
         ensures { result ≡ length self.now.rows }
     {

@@ -265,6 +265,15 @@ impl PlainStore {
         self.records[place] = fields;
     }
 
+    /// The processes have the records of these others from now on.
+    pub fn put_all(&mut self, others: &PlainStore)
+        requires { length self.old.records ≡ length others.now.records }
+        ensures { self.new ≡ record self.old { records = others.now.records } }
+    {
+        self.visits.note_all(self.records.len());
+        self.records.copy_from_slice(others.scanned());
+    }
+
     /// The process has this record with the next stamp upwards.
     fn put_newest(&mut self, process: ProcessId, fields: Record)
         requires known { process < length self.old.records }
@@ -348,6 +357,10 @@ impl Store for PlainStore {
 
     fn record(&self, process: ProcessId) -> &Record {
         &self.records[self.look(process)]
+    }
+
+    fn records(&self) -> &[Record] {
+        self.scanned()
     }
 
     // Inlined, since each turn asks for it in one place.

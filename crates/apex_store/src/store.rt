@@ -43,6 +43,11 @@ pub trait Store: Drop {
         requires known { process < length (roster self.now).records }
         ensures { result.now ≡ record_at (roster self.now) process };
 
+    /// The records of all processes, at each of which the caller looks.
+    fn records(&self) -> &[Record]
+        ensures value { result.now ≡ (roster self.now).records }
+        ensures range { length result.now ≤ MOST_PROCESSES };
+
     /// The process that the core runs.
     fn chosen(&self, core: CoreId) -> Option<ProcessId>
         ensures value { result ≡ chosen (roster self.now) core }

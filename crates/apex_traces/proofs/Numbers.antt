@@ -5,8 +5,9 @@ use Rattle.std.proofs.lemmas.Fmt.{decimal_digit}
 use Rattle.std.proofs.lemmas.List.{get_or-drop, length-drop}
 use Rattle.std.proofs.Math.Seq.{take-suc}
 use Rattle.std.specs.Prelude.{decimal, if◌then◌else◌}
-use Rattle.apex_history.proofs.Digits.{two_digits}
-use Rattle.apex_traces.specs.declared.pieces.TheConstants.{NUMBERS, PAIRS}
+use Rattle.apex_history.proofs.Digits.{pair_at, two_digits}
+use Rattle.apex_history.specs.declared.puts.TheConstants.{DIGIT_PAIRS}
+use Rattle.apex_traces.specs.declared.pieces.TheConstants.{NUMBERS}
 
 -- the first byte of a table from a place on, and the first two
 one_at : (table : List ℕ) (i : ℕ) → i + 1 ≤ length table → take 1 (drop i table) ≡ get_or table (i + 0) 0 ∷ []
@@ -20,26 +21,14 @@ two_at table i there =
     ∙ ap (λ l. l ++ (get_or (drop i table) 1 0 ∷ [])) (one_at table i (omega (arith, there)))
     ∙ ap (λ n. get_or table (i + 0) 0 ∷ n ∷ []) (get_or-drop i table 1 0)
 
--- the table of pairs has the digits of a number
-abbrev are_tens : ℕ → Bool
-are_tens p = eqb (get_or PAIRS (2 * p + 0) 0) (48 + p / 10)
-
-abbrev are_units : ℕ → Bool
-are_units p = eqb (get_or PAIRS (2 * p + 1) 0) (48 + p % 10)
-
-all_tens : agree_below are_tens (λ _. true) 100 ≡ true
-all_tens = refl
-
-all_units : agree_below are_units (λ _. true) 100 ≡ true
-all_units = refl
-
 -- the two digits of a number
-pub pair_text : (p : ℕ) → p < 100 → take 2 (drop (2 * p) PAIRS) ≡ (48 + p / 10) ∷ (48 + p % 10) ∷ []
+pub pair_text : (p : ℕ) → p < 100 → take 2 (drop (2 * p) DIGIT_PAIRS) ≡ (48 + p / 10) ∷ (48 + p % 10) ∷ []
 pair_text p lt =
-    let first = eqb-true _ _ (agree_below_at are_tens (λ _. true) 100 p all_tens lt) in
-    let second = eqb-true _ _ (agree_below_at are_units (λ _. true) 100 p all_units lt) in
-    two_at PAIRS (2 * p) (omega (arith, lt)) ∙ ap (λ n. n ∷ get_or PAIRS (2 * p + 1) 0 ∷ []) first
-    ∙ ap (λ n. (48 + p / 10) ∷ n ∷ []) second
+    let doubled : 2 * p ≡ p * 2 = omega arith in
+    let even : p * 2 + 0 ≡ p * 2 = omega arith in
+    let first : get_or DIGIT_PAIRS (p * 2 + 0) 0 ≡ 48 + p / 10 = ap (λ i. get_or DIGIT_PAIRS i 0) even ∙ (pair_at p lt).0 in
+    rw doubled (two_at DIGIT_PAIRS (p * 2) (omega (arith, lt)) ∙ ap (λ n. n ∷ get_or DIGIT_PAIRS (p * 2 + 1) 0 ∷ []) first
+    ∙ ap (λ n. (48 + p / 10) ∷ n ∷ []) (pair_at p lt).1)
 
 -- the table of numbers has the first digit of a number and, if it has two, the second one
 abbrev is_first : ℕ → Bool

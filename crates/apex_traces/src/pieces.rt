@@ -6,6 +6,7 @@ ghost use Rattle.arrayvec.specs.ArrayVec.{array_vec_len};
 ghost use Rattle.apex_traces.specs.declared.pieces.TheConstants.{DIGITS};
 
 use crate::bytes::Bytes;
+use apex_history::DIGIT_PAIRS;
 use apex_json::MOST_ESCAPE;
 use apex_types::{MOST_CORES, MOST_LINE, MOST_NOTICES, MOST_OBJECTS, MOST_PROCESSES};
 use itoa::Buffer;
@@ -34,10 +35,6 @@ pub(crate) const PIECE_ROOM: usize = CALL
     + TRACK * (MOST_CORES as usize + MOST_PROCESSES + MOST_OBJECTS)
     + COUNTER * 4 * MOST_OBJECTS
     + (MARK + 2 * ARROW) * MOST_NOTICES;
-
-/// The two digits of each number below 100, of which the first one may be a zero.
-static PAIRS: [u8; 200] =
-    *b"00010203040506070809101112131415161718192021222324252627282930313233343536373839404142434445464748495051525354555657585960616263646566676869707172737475767778798081828384858687888990919293949596979899";
 
 /// The digits of each number below 100, with a space behind one digit.
 static NUMBERS: [u8; 200] =
@@ -97,7 +94,7 @@ pub(crate) fn add_pair<const ROOM: usize>(piece: &mut Bytes<ROOM>, number: u8)
         ++ (48 + number / 10) ∷ (48 + number % 10) ∷ [] }
     ensures len { array_vec_len piece.new ≡ array_vec_len piece.old + 2 }
 {
-    piece.extend_by_front::<2>(&PAIRS[2 * usize::from(number)..], 2);
+    piece.extend_by_front::<2>(&DIGIT_PAIRS[2 * usize::from(number)..], 2);
 }
 
 /// How many digits a number below 100 has.

@@ -475,11 +475,13 @@ pub(crate) fn add_processes<S: Store>(
         ≡ of_places (track_of (S.roster store.now)) (length (S.roster store.now).records) }
     ensures short { array_vec_len piece.new ≤ array_vec_len piece.old + TRACK * MOST_PROCESSES }
 {
+    let records = store.records();
     for place in 0..tracks.len() {
         let process = ProcessId::at(place as u8);
         let before = tracks[place];
-        if !is_still(store, process, running, &before) {
-            let track = track_by(store, process, store.record(process), running);
+        let fields = &records[place];
+        if !is_still(store, process, fields, running, &before) {
+            let track = track_by(store, process, fields, running);
             add_process(piece, table, process, time, stamp, &before, &track);
             tracks[place] = track;
         }

@@ -22,7 +22,7 @@ use apex_moments::{
     CORES, Counts, counts_of, is_process, put_bytes, running_at, running_of, state_of,
 };
 use apex_store::Store;
-use apex_types::{LentEntry, MOST_CORES, MOST_PROCESSES, ProcessId, State};
+use apex_types::{CoreId, LentEntry, MOST_CORES, MOST_PROCESSES, ProcessId, State};
 use arrayvec::ArrayVec;
 use std::alloc::AllocError;
 use std::marker::Model;
@@ -76,14 +76,18 @@ pub(crate) fn track_by<S: Store>(
     )
 }
 
-/// The process is ready.
+/// The process of this record is ready.
 #[inline(always)]
-fn is_ready<S: Store>(store: &S, process: ProcessId, running: &[Option<ProcessId>]) -> bool
-    requires known { process < length (S.roster store.now).records }
+fn is_ready<S: Store>(
+    store: &S,
+    process: ProcessId,
+    fields: &Record,
+    running: &[Option<ProcessId>],
+) -> bool
+    requires fields { fields.now ≡ record_at (S.roster store.now) process }
     requires running { running.now ≡ running_in (S.roster store.now) }
     ensures { IsTrue result → track_of (S.roster store.now) process ≡ Ready }
 {
-    let fields = store.record(process);
     prove!(u32::from(fields.core.number()) < MOST_CORES);
     matches!(
         state_of(process, fields, store.mode(), running),
@@ -91,56 +95,64 @@ fn is_ready<S: Store>(store: &S, process: ProcessId, running: &[Option<ProcessId
     )
 }
 
-/// The process is the one that its core runs.
+/// The process is the one that this core runs.
 #[inline(always)]
-fn is_run<S: Store>(store: &S, process: ProcessId, running: &[Option<ProcessId>]) -> bool
-    requires known { process < length (S.roster store.now).records }
-    requires running { running.now ≡ running_in (S.roster store.now) }
-    ensures { IsTrue result → track_of (S.roster store.now) process ≡ Running }
+fn is_run<S: Store>(
+    _store: &S,
+    process: ProcessId,
+    core: CoreId,
+    running: &[Option<ProcessId>],
+) -> bool
+    requires { running.now ≡ running_in (S.roster _store.now) }
+    ensures { IsTrue result → track_of (S.roster _store.now) process ≡ Running }
 {
-    let fields = store.record(process);
-    prove!(u32::from(fields.core.number()) < MOST_CORES);
-    is_process(process, running_at(running, fields.core))
+    prove!(u32::from(core.number()) < MOST_CORES);
+    is_process(process, running_at(running, core))
 }
 
-/// The process waits, and is shown as this.
+/// The process of this record waits, and is shown as this.
 #[inline(always)]
-fn still_waits<S: Store>(store: &S, process: ProcessId, being: &Being) -> bool
-    requires known { process < length (S.roster store.now).records }
-    ensures { IsTrue result → track_of (S.roster store.now) process ≡ being.now }
+fn still_waits<S: Store>(_store: &S, process: ProcessId, fields: &Record, being: &Being) -> bool
+    requires { fields.now ≡ record_at (S.roster _store.now) process }
+    ensures { IsTrue result → track_of (S.roster _store.now) process ≡ being.now }
 {
-    let fields = store.record(process);
     is_awaiting(being, &fields.wait) && fields.started
 }
 
-/// The track of a process still shows this. It looks at no more of the process's record than that
-/// takes; if it answers no, the track may show it too.
+/// The track of the process of this record still shows this. It looks at no more of the record than
+/// that takes; if it answers no, the track may show it too.
 // Each being has a case of its own, so that what is shown is asked for once.
 #[inline(always)]
 pub(crate) fn is_still<S: Store>(
     store: &S,
     process: ProcessId,
+    fields: &Record,
     running: &[Option<ProcessId>],
     being: &Being,
 ) -> bool
-    requires known { process < length (S.roster store.now).records }
+    requires fields { fields.now ≡ record_at (S.roster store.now) process }
     requires running { running.now ≡ running_in (S.roster store.now) }
     ensures { IsTrue result → track_of (S.roster store.now) process ≡ being.now }
 {
     match being {
-        Being::Dormant => !store.record(process).started,
-        Being::Ready => is_ready(store, process, running),
-        Being::Running => is_run(store, process, running),
+        Being::Dormant => !fields.started,
+        Being::Ready => is_ready(store, process, fields, running),
+        Being::Running => is_run(store, process, fields.core, running),
         Being::Waiting => false,
-        Being::Normal => still_waits(store, process, &Being::Normal),
-        Being::Start => still_waits(store, process, &Being::Start),
-        Being::Time => still_waits(store, process, &Being::Time),
-        Being::Period => still_waits(store, process, &Being::Period),
-        Being::Semaphore(semaphore) => still_waits(store, process, &Being::Semaphore(*semaphore)),
-        Being::Buffer(buffer) => still_waits(store, process, &Being::Buffer(*buffer)),
-        Being::Blackboard(board) => still_waits(store, process, &Being::Blackboard(*board)),
-        Being::EventFlag(event) => still_waits(store, process, &Being::EventFlag(*event)),
-        Being::Mutex(mutex) => still_waits(store, process, &Being::Mutex(*mutex)),
+        Being::Normal => still_waits(store, process, fields, &Being::Normal),
+        Being::Start => still_waits(store, process, fields, &Being::Start),
+        Being::Time => still_waits(store, process, fields, &Being::Time),
+        Being::Period => still_waits(store, process, fields, &Being::Period),
+        Being::Semaphore(semaphore) => still_waits(
+            store,
+            process,
+            fields,
+            &Being::Semaphore(*semaphore),
+        ),
+        Being::Buffer(buffer) => still_waits(store, process, fields, &Being::Buffer(*buffer)),
+        Being::Blackboard(board) => still_waits(store, process, fields, &Being::Blackboard(*board)),
+        Being::EventFlag(event) => still_waits(store, process, fields, &Being::EventFlag(*event)),
+        Being::Mutex(mutex) => still_waits(store, process, fields, &Being::Mutex(*mutex)),
     }
 }
 

@@ -18,7 +18,7 @@ use Rattle.apex_drawing.specs.declared.Style.{Style}
 use Rattle.apex_drawing.specs.declared.Style.TheVariants as styles
 use Rattle.apex_views.specs.Departures.{Departure}
 use Rattle.apex_views.specs.Shows.{Answers, Gives, IsGivenTo, IsRunTo, IsToldBy, Outcome, ShowEnd, Shows, ShowsOutcome, cut_off, cut_short, end_before, end_of, fails, first_fault, no_memory, outcome_in, outcome_of_run, parts, ran, refused, shown, shows, stops, told, unread, unwritten, whole}
-use Rattle.apex_views.specs.Plans.{AppendsPrefixOfView, AppendsView, IsStyleOf, excerpt_at, excerpt_in, excerpt_with, fault_of_drawing}
+use Rattle.apex_views.specs.Plans.{AppendsPrefixOfView, AppendsView, IsStyleOf, excerpt_at, excerpt_shown, excerpt_with, fault_of_drawing}
 use Rattle.apex_showings.specs.Showings.{Picture, Source, View, drawn, history, svg, trace}
 use Rattle.apex_views.specs.declared.sources.Given.{Given}
 use Rattle.apex_views.specs.declared.sources.GivenRun.{GivenRun}
@@ -113,7 +113,7 @@ pictures_failed draw.Write begun counts = rw counts (unwritten begun)
 module _ {held after : Option (List ℕ)} {failed failures : ℕ} where
   -- a run that is shown in the view that is asked for
   pub ends_shown : (view asked : View) (table : tables.Table) (machine : Machine) (fault reported : Option CliFault) (ends : ShowEnd)
-      → asked ≡ view → ends ≡ end_of (excerpt_in view machine.history) (first_fault fault reported)
+      → asked ≡ view → ends ≡ end_of (excerpt_shown view machine.history) (first_fault fault reported)
       → Shows view table machine None held failed fault after failures
       → ShowsOutcome asked held failed (shows table machine reported) ends after failures
   ends_shown view asked table machine fault reported ends seen is shows_view =
@@ -129,7 +129,7 @@ module _ {held after : Option (List ℕ)} {failed failures : ℕ} where
 
 -- what is drawn is what the style says
 pub excerpt_is : (picture : Picture) (table : tables.Table) (entries : List Entry) (style : Style) → IsStyleOf picture table entries None style
-    → excerpt_in (drawn picture) entries ≡ excerpt_with style
+    → excerpt_shown (drawn picture) entries ≡ excerpt_with style
 excerpt_is (svg chart) table entries (styles.Svg frame) is = ap (λ s. excerpt_at chart.fold s entries) is.is ∙ sym is.shows.columns.excerpt
 excerpt_is (svg chart) table entries (styles.Trace tick) is = absurd is
 excerpt_is (trace asked) table entries (styles.Svg frame) is = absurd is

@@ -104,11 +104,11 @@ excerpt_at fold (Some span) history =
     excerpt_of (extent_of None (length history) fold span) history
 
 -- what a view shows of a history, if more was asked for
-abbrev pub excerpt_in : View → List Entry → Option Excerpt
-excerpt_in (drawn (svg chart)) history =
+abbrev pub excerpt_shown : View → List Entry → Option Excerpt
+excerpt_shown (drawn (svg chart)) history =
     excerpt_at chart.fold (span_in chart.window history) history
-excerpt_in (drawn (trace tick)) history = None
-excerpt_in (listed listing) history = None
+excerpt_shown (drawn (trace tick)) history = None
+excerpt_shown (listed listing) history = None
 
 -- what is drawn in a style, if more was asked for
 abbrev pub excerpt_with : Style → Option Excerpt

@@ -21,7 +21,7 @@ use Rattle.apex_views.specs.Departures.{Departure, DepartsBehind, departure_at, 
 use Rattle.apex_showings.specs.Schedules.{IsBadIn}
 use Rattle.apex_views.specs.Paced.{paced_answer}
 use Rattle.apex_pictures.specs.declared.Excerpt.{Excerpt}
-use Rattle.apex_views.specs.Plans.{AppendsPrefixOfView, AppendsView, IsPlanFor, columns_asked, excerpt_in, machine_of}
+use Rattle.apex_views.specs.Plans.{AppendsPrefixOfView, AppendsView, IsPlanFor, columns_asked, excerpt_shown, machine_of}
 use Rattle.apex_views.specs.Rows.{rows_for}
 use Rattle.apex_showings.specs.Showings.{Chart, Picture, Showing, Source, View, drawn, history, listed, paced, schedule, schedule_read, svg, trace}
 use Rattle.apex_showings.specs.Windows.{empty_in}
@@ -258,7 +258,7 @@ pub data ShowsOutcome (view : View) (held : Option (List ℕ)) (failed : ℕ)
       → {after : Option (List ℕ)} {failures : ℕ}
       → Shows view table machine None held failed fault after failures
       → ShowsOutcome view held failed (shows table machine reported)
-      (end_of (excerpt_in view machine.history) (first_fault fault reported)) after failures
+      (end_of (excerpt_shown view machine.history) (first_fault fault reported)) after failures
   -- no entry of the machine in the window of the picture has a column: nothing was written
   empty : (table : tables.Table) (machine : Machine) (reported : Option CliFault) (window : Window)
       (fold : Bool) → {after : Option (List ℕ)} → IsEmptyIn view window fold machine.history → Keeps held after

@@ -4,7 +4,7 @@ ghost use Rattle.apex_history.specs.Counted.{inner_of, failures_of};
 ghost use Rattle.apex_machine.specs.Events.{IsWithin};
 ghost use Rattle.apex_console.specs.Streams.{ports_of};
 ghost use Rattle.apex_console.specs.declared.CliFault.{CliFault as CliFaultOf};
-ghost use Rattle.apex_views.specs.Plans.{IsStyleOf, excerpt_in, machine_of};
+ghost use Rattle.apex_views.specs.Plans.{IsStyleOf, excerpt_shown, machine_of};
 ghost use Rattle.apex_views.specs.Departures.{departure_said};
 ghost use Rattle.apex_showings.specs.Showings.{Picture as PictureAsked, View as ViewAsked, drawn, showing_said};
 ghost use Rattle.apex_views.specs.Shows.{IsRunFor, ShowEnds, Shows, ShowsOutcome, end_in, end_of, end_of_part, first_fault, outcome_of_run};
@@ -53,7 +53,7 @@ fn show_plan<W: Sink>(
         → (fault : Option CliFaultOf) × Shows (drawn picture) plan.table (machine_of plan) None
         (W.contents (inner_of writer.old)) (failures_of writer.old) fault
         (W.contents (inner_of writer.new)) (failures_of writer.new)
-        × (end_in result ≡ end_of (excerpt_in (drawn picture) (machine_of plan).history)
+        × (end_in result ≡ end_of (excerpt_shown (drawn picture) (machine_of plan).history)
         (first_fault fault plan.fault)) }
 {
     let part = plan.part();

@@ -30,14 +30,14 @@ returns c =
     ap (λ z. to_z w64 (of_z w64 z)) c.first_stamp-young.ensures
     ∙ to_z_pos w64 (1 + (n + 1) * n) (omega arith) in
     let known : (paced_in c.args.known.now).situation.roster ≡ roster_from table words = c.requires.known.situation.roster in
-    let copy = c.copy_records.ensures
+    let copy = c.put_all.ensures
     ∙ ap (λ (r : Roster). record c.into_parts-store.result.0 { records = r.records }) (c.store.ensures.roster ∙ ap (λ (p : StoredPaced). (paced_in p).situation.roster) c.known.view_is ∙ known) in
     let objects = c.objects.ensures ∙ ap (λ (p : StoredPaced). (paced_in p).situation.objects) c.known.view_is ∙ c.requires.known.situation.objects in
     record {
       situation = record {
         roster = ap (λ (s : Situation). s.roster) new
             ∙ roster_restored table words c.into_parts-store.result.0
-            c.copy_records.new.store c.set_clock.new.self c.mode_in.result
+            c.put_all.new.self c.set_clock.new.self c.mode_in.result
             (to_z w64 (of_z w64 c.first_stamp-young.result)) of.cores of.disciplines of.rules copy
             c.set_clock.ensures c.mode_in.ensures
             (stamp ∙ ap (λ k. pos (1 + (k + 1) * k)) many);
@@ -51,8 +51,8 @@ returns c =
       worked = λ core. c.counts_of.ensures.worked core ∙ c.requires.known.worked core;
     }
 
-pub copy_records-requires : goal.copy_records-requires
-copy_records-requires c =
+pub put_all-requires : goal.put_all-requires
+put_all-requires c =
     let same : (paced_in c.args.paced).situation ≡ situation_with c.into_parts-store.result.0
     c.into_parts-store.result.1 c.into_parts-store.result.2 c.into_parts-store.result.3 =
     sym (ap (λ (p : StoredPaced). (paced_in p).situation) c.paced.view_is)

@@ -34,6 +34,7 @@ loop-place-preserved g c =
             stamp = at.stamp;
             end = at.end;
             running = at.running;
+            records = at.records;
             tracks = changed_at (track_of roster) place old _ _ _ kept at.tracks w.tracks-is track;
             text = text_next changes place _ _ _ at.text
                 (rw w.piece-is (rw (c.at-process.ensures, was, is) at w.add_process.ensures.text));
@@ -47,6 +48,7 @@ loop-place-preserved g c =
             stamp = at.stamp;
             end = at.end;
             running = at.running;
+            records = at.records;
             tracks = rw w.tracks-is (still_at (track_of roster) place old _ before kept at.tracks (sym c.index-tracks-place.is ∙ sym still));
             text = text_next changes place _ _ _ at.text
                 (rw w.piece-is (process_still table c.args.time place (being_in (slice_index_or (map cell_on old) place no_cell))

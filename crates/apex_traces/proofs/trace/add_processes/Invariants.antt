@@ -17,6 +17,7 @@ invariant-loop-place g l =
       stamp : l.stamp ≡ l.time;
       end : l.place-end ≡ length l.fn.tracks;
       running : l.running ≡ running_in roster;
+      records : l.records ≡ roster.records;
       tracks : l.tracks ≡ of_places (track_of roster) l.place ++ drop l.place l.fn.tracks;
       text : l.piece.items ≡ l.fn.piece.items ++ texts_of (trace.process_at l.table l.time (with_cells (map cell_on l.fn.tracks)) (with_cells (bare_cells roster))) l.place;
       short : array_vec_len l.piece ≤ array_vec_len l.fn.piece + TRACK * l.place;

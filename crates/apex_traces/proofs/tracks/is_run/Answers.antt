@@ -9,10 +9,10 @@ use Rattle.apex_traces.proofs.tracks.is_run.Goals as goal
 
 pub returns : goal.returns
 returns g c h =
-    let roster = g.S.Store.roster c.args.store.now in
-    let core = c.record-fields.result.now.core in
+    let roster = g.S.Store.roster c.args._store.now in
+    let core = c.args.core in
     let bound : core < MOST_CORES = omega (arith, c.number.ensures.value, c.number.ensures.range) in
     let here : slice_index_or c.args.running.now core None ≡ chosen roster core =
-    ap (λ (l : List (Option ℕ)). slice_index_or l core None) c.requires.running
+    ap (λ (l : List (Option ℕ)). slice_index_or l core None) c.requires
     ∙ place_of (chosen roster) MOST_CORES core None bound in
     track_running roster core c.args.process c.running_at.result (c.running_at.ensures.value ∙ here) (sym c.is_process.ensures ∙ h)

@@ -1,7 +1,5 @@
 use Rattle.std.proofs.Common.{◌≡◌, ◌≢◌, ◌<◌, ◌∙◌, length, map, sym, arith}
-use Rattle.std.proofs.lemmas.Bool.Decides.{Decides-eqb, not_from_Decides}
 use Rattle.std.proofs.lemmas.List.{length-map}
-use Rattle.std.proofs.lemmas.Slice.Eq.{slice_eq-Decides}
 use Rattle.apex_states.specs.Index.{place_in}
 use Rattle.apex_states.proofs.Probing.{home_below, slot_below, vacant_at, other_at, place_known, some_free}
 use Rattle.apex_states.proofs.index.Index.find.Goals as goal
@@ -27,7 +25,7 @@ loop-steps-preserved c =
     let size : c.len-size.result ≡ length c.args.self.now.slots.items = omega arith in
     let under = slot_below c.len-size.result c.home-home.result c.loop-steps.steps c.slot_after-slot.result c.args.row.now (omega arith) c.home-home.ensures c.loop-steps-test.true c.slot_after-slot.ensures in
     let below : c.slot_after-slot.result < length c.args.self.now.slots.items = omega (arith, under) in
-    let differs : c.row.result.now ≢ c.args.row.now = not_from_Decides c.eq.result (slice_eq-Decides Decides-eqb c.row.result.now c.args.row.now c.eq.result c.eq.ensures) c.if-eq.false in
+    let differs : c.row.result.now ≢ c.args.row.now = λ same. let no = sym (c.are_same.ensures.1 same) ∙ c.if-are_same.false in cc in
     other_at c.args.self.now.slots.items c.args.rows.now.rows c.args.row.now c.len-size.result c.home-home.result c.loop-steps.steps c.slot_after-slot.result c.in-Some.place c.index.result.now c.row.result.now size c.home-home.ensures c.slot_after-slot.ensures below c.index.ensures (sym c.place.ensures ∙ c.in-Some.is) c.row.ensures.row differs c.loop-steps.invariant
 
 pub unreachable-requires : goal.unreachable-requires

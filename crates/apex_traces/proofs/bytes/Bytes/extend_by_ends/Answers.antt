@@ -1,5 +1,5 @@
 -- The two copies cover the bytes.
-use Rattle.std.proofs.Common.{◌≡◌, ◌∙◌, ◌-◌, ◌++◌, ℕ, ap, arith, length}
+use Rattle.std.proofs.Common.{◌∙◌, ◌-◌, ◌++◌, ℕ, ap, arith, length}
 use Rattle.std.proofs.lemmas.List.{take_rest}
 use Rattle.arrayvec.specs.ArrayVec.{ArrayVec}
 use Rattle.apex_traces.proofs.Copies.{both_kept}
