@@ -7,7 +7,7 @@ ghost use Rattle.apex_explore.specs.Searches.{AreLeft, IsOver, IsSearched, IsSea
 ghost use Rattle.apex_explore.specs.Systems.{step_within};
 ghost use Rattle.apex_states.specs.Lists.{AllAre};
 
-use crate::expanding::{expand_all, give_back};
+use crate::expanding::expand_all;
 use crate::laying::lay_out_all;
 use crate::taking::take_and_expand;
 use apex_explore::{Answer, Desk, Places, Search, Stop, System, Watch};
@@ -227,7 +227,6 @@ impl<'r, R: Threads + Sync> Jobs<'r, R> {
                 Some(stop) => return Ok(Some(stop)),
                 None => {}
             }
-            give_back(system, desks, expansions);
             expansions = more;
             let Some(places) = search.turn(system) else {
                 return Ok(Some(Stop::Done));
