@@ -4,7 +4,7 @@ use Rattle.std.proofs.lemmas.List.{flat_map_more, take-append-drop}
 use Rattle.std.proofs.lemmas.Option.{slice_get_within}
 use Rattle.std.specs.List.{slice_get}
 use Rattle.apex_states.specs.Batches.{Copies}
-use Rattle.apex_states.specs.Expansions.{found_in, ComesFrom}
+use Rattle.apex_states.specs.Expansions.{found_in, IsWide}
 use Rattle.apex_states.specs.Finds.{Found, IsFind}
 use Rattle.apex_states.specs.Lists.{AllAre}
 use Rattle.apex_states.specs.States.{Reached}
@@ -16,7 +16,7 @@ use Rattle.apex_explore.specs.Levels.{Keeps}
 use Rattle.apex_explore.specs.Parts.{Ends, Expanded, Fit, FitsOne, IsFrom}
 use Rattle.apex_explore.specs.Systems.{Step}
 use Rattle.apex_explore.proofs.Levels.{Keeps-widen}
-use Rattle.apex_explore.proofs.Parting.{find_parents, Keeps-there}
+use Rattle.apex_explore.proofs.Parting.{Keeps-there}
 
 -- an expansion of no states
 pub Expanded-none : (step : List ℕ → ℕ → Step (List ℕ)) (is_state : List ℕ → Type 0) (reached : Reached) (from : ℕ)
@@ -185,11 +185,10 @@ module _ (step : List ℕ → ℕ → Step (List ℕ)) (is_state : List ℕ → 
       let So : ℕ → Type 0 = λ n. FitsOne step is_state reached front (record { finds = found_in reached.width (take n expansions); end = end; hit = None }) in
       (subst So (sym same) (record { limit = end; expanded = reaching.so_far; level = omega (arith, ended, level) }), ended)
 
--- states that were found in some of the expansions come from those that were reached
-pub Fit-come : (step : List ℕ → ℕ → Step (List ℕ)) (is_state : List ℕ → Type 0) (reached : Reached) (front : Front) (limit : ℕ) (expansions : List Expansion) (count : ℕ)
-    → Fit step is_state reached front limit expansions → AllAre (ComesFrom reached) (take count expansions)
-Fit-come step is_state reached front limit expansions count fit place expansion is =
+-- the states of the expansions have as many words as those that were reached
+pub Fit-wide : (step : List ℕ → ℕ → Step (List ℕ)) (is_state : List ℕ → Type 0) (reached : Reached) (front : Front) (limit : ℕ) (expansions : List Expansion) (count : ℕ)
+    → Fit step is_state reached front limit expansions → AllAre (IsWide reached.width) (take count expansions)
+Fit-wide step is_state reached front limit expansions count fit place expansion is =
     let there = (IsFront-append (take count expansions) (drop count expansions)).same place expansion is in
     let here : slice_get expansions place ≡ Some expansion = ap (λ es. slice_get es place) (sym (take-append-drop count expansions)) ∙ there in
-    let expanded = fit.each place expansion here in
-    record { width = expanded.is.filling.width; parents = find_parents step is_state (fit.start place) (fit.start (place + 1)) reached expansion expanded }
+    (fit.each place expansion here).is.filling.width

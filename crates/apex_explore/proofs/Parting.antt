@@ -104,14 +104,6 @@ module _ (step : List ℕ → ℕ → Step (List ℕ)) (is_state : List ℕ → 
       let origin_is = slice_get-get_or expansion.finds.origins at nowhere (omega (arith, short, expanded.is.filling.paired)) in
       (get_or expansion.finds.origins at nowhere, record { state = is; origin = origin_is })
 
-  pub find_parents : (place : ℕ) (origin : Origin) → slice_get expansion.finds.origins place ≡ Some origin → origin.parent < length old.states
-  find_parents place origin is =
-      let short = slice_get_within expansion.finds.origins place origin is in
-      let n = get_or expansion.finds.states place [] in
-      let state = slice_get-get_or expansion.finds.states place [] (omega (arith, short, expanded.is.filling.paired)) in
-      let child = found_child n origin (expanded.is.finds.from place n origin (record { state = state; origin = is })) in
-      slice_get_within old.states origin.parent child.2.0 child.2.1
-
   -- a state that is done is one of the copies
   copy_at : (place : ℕ) (k : List ℕ) → from ≤ place → place < expansion.end → slice_get old.states place ≡ Some k
       → (place - from < expanded.is.done) × (slice_get copies.states (place - from) ≡ Some k)

@@ -1,5 +1,5 @@
 -- Desks at which states are expanded.
-use Rattle.std.specs.Prelude.{◌≡◌, ℕ, ◌+◌, ◌^◌, ◌≤◌, List, length, Some, IfOk, IfSome, Result}
+use Rattle.std.specs.Prelude.{◌≡◌, ℕ, ◌+◌, ◌^◌, ◌≤◌, List, length, Some, IfOk, Result}
 use Rattle.std.specs.declared.alloc.AllocError.{AllocError}
 use Rattle.apex_explore.specs.Parts.{IsExpansion}
 use Rattle.apex_explore.specs.Systems.{Step}
@@ -13,7 +13,6 @@ pub record IsDesk {W : Type 0} (word_count : ℕ) (is_workspace : W → Type 0) 
   pub workspace : is_workspace desk.workspace
   pub next : length desk.next.items ≡ word_count
   pub width : desk.batch.width ≡ word_count
-  pub spare : IfSome desk.spare (λ finds. finds.width ≡ word_count)
 
 -- the desk has copies of states of a system
 pub record IsReady {W : Type 0} (is_state : List ℕ → Type 0) (desk : Desk W) : Type 0 where

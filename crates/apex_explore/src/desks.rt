@@ -6,7 +6,7 @@ ghost use Rattle.apex_states.specs.Batches.{IsCopied};
 
 use crate::parts::expand_batch;
 use crate::systems::System;
-use apex_states::{Batch, Expansion, Finds, States};
+use apex_states::{Batch, Expansion, States};
 use std::alloc::{AllocError, Global};
 
 /// What one thread needs to expand states: copies of them, and a workspace of its own.
@@ -21,8 +21,6 @@ pub struct Desk<W> {
     pub(crate) laid: Result<(), AllocError>,
     /// What the choices in these states do, once that is made.
     pub(crate) made: Option<Result<Expansion, AllocError>>,
-    /// Finds that are kept. The next ones get their memory.
-    pub(crate) spare: Option<Finds>,
 }
 
 impl<W: Drop> Desk<W> {
@@ -38,7 +36,6 @@ impl<W: Drop> Desk<W> {
             batch: Batch::new(alloc, width),
             laid: Ok(()),
             made: None,
-            spare: None,
         })
     }
 
@@ -72,8 +69,7 @@ impl<W: Drop> Desk<W> {
             (S.is_workspace system.now) self.old.batch self.new }
     {
         let next = self.next.as_mut_slice();
-        let spare = self.spare.take();
-        let made = expand_batch(alloc, system, &mut self.workspace, next, &self.batch, spare);
+        let made = expand_batch(alloc, system, &mut self.workspace, next, &self.batch);
         self.made = Some(made);
     }
 
@@ -83,12 +79,5 @@ impl<W: Drop> Desk<W> {
         ensures same { self.new ≡ record self.old { made = None } }
     {
         self.made.take()
-    }
-
-    /// Gives back an expansion whose states are kept: its memory is used again.
-    pub fn give_back(&mut self, expansion: Expansion)
-        ensures { self.new ≡ record self.old { spare = Some expansion.finds } }
-    {
-        self.spare = Some(expansion.finds);
     }
 }

@@ -12,6 +12,7 @@ use std::alloc::{AllocError, Global};
 /// Makes each choice in the state, which is the one at `place`, until one hits: the choice. Fails only
 /// for want of memory.
 fn expand_state<S: System>(
+    alloc: Global,
     system: &S,
     workspace: &mut S::Workspace,
     state: &[u64],
@@ -33,6 +34,7 @@ fn expand_state<S: System>(
     ensures finds { IfOk result (λ _.
         IsFilling (S.word_count system.now) (S.is_state system.now) finds.new) }
 {
+    finds.begin(alloc, state)?;
     system.enter(workspace, state);
     for choice in 0..system.choices() {
         match system.next(workspace, state, choice, next) {
@@ -43,58 +45,42 @@ fn expand_state<S: System>(
                     parent: place as u32,
                     choice,
                 };
-                finds.put(next, origin)?;
+                finds.put(alloc, next, origin)?;
             }
         }
     }
     Ok(None)
 }
 
-/// No finds, of states of `width` words each, with the memory of the spare ones, if there are some. Fails
-/// only for want of memory.
-fn cleared(
-    alloc: Global,
-    width: usize,
-    expected: usize,
-    spare: Option<Finds>,
-) -> Result<Finds, AllocError>
-    requires { IfSome spare (λ finds. finds.width ≡ width) }
-    ensures { IfOk result (λ finds. finds ≡ no_finds width) }
-{
-    match spare {
-        Some(mut finds) => {
-            finds.clear();
-            Ok(finds)
-        }
-        None => Finds::new(alloc, width, expected),
-    }
-}
-
-/// Makes each choice in the states of the batch, until one hits. What is found has the memory of the spare
-/// finds, if there are some. Fails only for want of memory.
+/// Makes each choice in the states of the batch, until one hits. Fails only for want of memory.
 pub(crate) fn expand_batch<S: System>(
     alloc: Global,
     system: &S,
     workspace: &mut S::Workspace,
     next: &mut [u64],
     batch: &Batch,
-    spare: Option<Finds>,
 ) -> Result<Expansion, AllocError>
     requires width { batch.now.width ≡ S.word_count system.now }
     requires fits { batch.now.first + length batch.now.states ≤ 2 ^ 32 }
     requires states { AllAre (S.is_state system.now) batch.now.states }
     requires next { length next.old ≡ S.word_count system.now }
     requires workspace { S.is_workspace system.now workspace.old }
-    requires spare { IfSome spare (λ finds. finds.width ≡ S.word_count system.now) }
     ensures expansion { let step = step_within (S.choice_count system.now) (S.step system.now) in
         IfOk result (IsExpansion step (S.word_count system.now) (S.is_state system.now) batch.now) }
     ensures workspace { IfOk result (λ _. S.is_workspace system.now workspace.new) }
 {
-    let expected = batch.len().saturating_mul(2);
-    let mut finds = cleared(alloc, system.width(), expected, spare)?;
+    let mut finds = Finds::new(alloc, system.width())?;
     for at in 0..batch.len() {
         let place = batch.first() + at;
-        let hit = expand_state(system, workspace, batch.state(at), next, place, &mut finds)?;
+        let hit = expand_state(
+            alloc,
+            system,
+            workspace,
+            batch.state(at),
+            next,
+            place,
+            &mut finds,
+        )?;
         match hit {
             Some(choice) => {
                 return Ok(Expansion {

@@ -81,4 +81,4 @@ module _ {W : Type 0} (is_state : List ℕ → Type 0) (reached : Reached) (from
       let (was, there, lays) = laid place desk is in
       let same = desks place was there in
       let wide : desk.batch.width ≡ word_count = (copied place desk is).width ∙ width in
-      rw lays.same (record { workspace = same.workspace; next = same.next; width = wide; spare = same.spare })
+      rw lays.same (record { workspace = same.workspace; next = same.next; width = wide })

@@ -124,12 +124,7 @@ made_desk step word_count is_state is_workspace copies desk expansion made is =
     let result : made.made ≡ Ok expansion = same_Some made.made (Ok expansion) (sym made.is ∙ is) in
     let Is : Result Expansion AllocError → Type 0 = λ r. IfOk r (λ _. IsDesk word_count is_workspace desk) in
     let same : IsDesk word_count is_workspace desk = subst Is result made.desk_is in
-    record { workspace = same.workspace; next = same.next; width = same.width; spare = same.spare }
-
--- a desk that got an expansion back
-pub given_desk : {W : Type 0} (word_count : ℕ) (is_workspace : W → Type 0) (desk : Desk W) (expansion : Expansion)
-    → IsWide word_count expansion → IsDesk word_count is_workspace desk → IsDesk word_count is_workspace (record desk { spare = Some expansion.finds })
-given_desk word_count is_workspace desk expansion wide is = record { workspace = is.workspace; next = is.next; width = is.width; spare = wide }
+    record { workspace = same.workspace; next = same.next; width = same.width }
 
 -- What a call at each member of a list leaves there.
 module _ {X : Type 0} (R : ℕ → X → X → Type 0) (old new : List X) (count : length new ≡ length old)

@@ -3,7 +3,6 @@ ghost use Rattle.std.specs.Prelude.{◌≡◌, ℕ, ◌<◌, length, IfOk};
 ghost use Rattle.apex_explore.specs.Desks.{IsDesk, IsMade, IsReady};
 ghost use Rattle.apex_explore.specs.Systems.{step_within};
 ghost use Rattle.apex_jobs.specs.Rounds.{AreExpansions, AreGathered, AreLaidOut};
-ghost use Rattle.apex_states.specs.Expansions.{IsWide};
 ghost use Rattle.apex_states.specs.Batches.{Copies};
 ghost use Rattle.apex_states.specs.Lists.{AllAre};
 ghost use Rattle.apex_states.specs.States.{Reached};
@@ -35,24 +34,6 @@ fn gather<W: Drop, S: System<Workspace = W>>(
         expansions.push(made?)?;
     }
     Ok(expansions)
-}
-
-/// Gives back expansions whose states are kept, one to each desk.
-pub(crate) fn give_back<W: Drop, S: System<Workspace = W>>(
-    system: &S,
-    desks: &mut [Desk<W>],
-    mut expansions: Vec<Expansion>,
-)
-    requires desks { AllAre (IsDesk (S.word_count system.now) (S.is_workspace system.now)) desks.old }
-    requires wide { AllAre (IsWide (S.word_count system.now)) expansions.items }
-    ensures { AllAre (IsDesk (S.word_count system.now) (S.is_workspace system.now)) desks.new }
-{
-    for place in 0..desks.len() {
-        let Some(expansion) = expansions.pop() else {
-            return;
-        };
-        desks[place].give_back(expansion);
-    }
 }
 
 /// Makes each choice in the states of each desk, until one hits there. A thread works at each desk, if one

@@ -7,7 +7,7 @@ ghost use Rattle.apex_explore.specs.Searches.{AreLeft, IsOver, IsSearched, IsSea
 ghost use Rattle.apex_explore.specs.Systems.{step_within};
 ghost use Rattle.apex_states.specs.Lists.{AllAre};
 
-use crate::expanding::{expand_all, give_back};
+use crate::expanding::expand_all;
 use crate::laying::lay_out_all;
 use crate::taking::take_and_expand;
 use apex_explore::{Answer, Desk, Places, Search, Stop, System, Watch};
@@ -21,6 +21,9 @@ const MOST_AT_DESK: usize = 2048;
 
 /// To expand fewer states than this takes less time than to begin a thread.
 const LEAST_AT_DESK: usize = 32;
+
+/// A job has this many desks, and each desk a thread of its own, since some desks take longer than others.
+const DESKS_A_JOB: usize = 3;
 
 /// Of `states` states, the number of those from the place `end` on that can be laid out while those before
 /// are kept. They are those of the level, which ends at `limit`. At its end they are those of the next one
@@ -43,7 +46,7 @@ fn states_ahead(states: usize, end: usize, limit: usize, desks: usize) -> usize
     }
 }
 
-/// The threads among which the states of a level are split.
+/// The jobs among which the states of a level are split.
 #[derive(Clone, Copy)]
 pub struct Jobs<'r, R> {
     rt: &'r R,
@@ -51,14 +54,14 @@ pub struct Jobs<'r, R> {
 }
 
 impl<'r, R: Threads + Sync> Jobs<'r, R> {
-    /// `jobs` threads that expand states, beside the caller and one more, which keep those that they find.
-    /// The caller does all if `jobs` is 0 or 1.
+    /// `jobs` jobs that expand states, each by three threads, beside the caller and one thread more, which
+    /// keep those that they find. The caller does all if `jobs` is 0 or 1.
     pub fn new(rt: &'r R, jobs: u32) -> Jobs<'r, R> {
         Jobs { rt, jobs }
     }
 
     /// Searches the system's states, nearest first, for a choice that hits, as
-    /// `apex_explore::explore` does. Each thread has a workspace, too, and what threads find takes memory
+    /// `apex_explore::explore` does. Each desk has a workspace, too, and what is found there takes memory
     /// until it is kept.
     pub fn explore<W: Drop + Send, S: System<Workspace = W> + Sync, V: Watch>(
         &self,
@@ -110,18 +113,25 @@ impl<'r, R: Threads + Sync> Jobs<'r, R> {
         }
     }
 
-    /// A desk for each thread. Fails only for want of memory.
+    /// The number of desks of a search.
+    fn desk_count(&self) -> usize
+        ensures { self.now.jobs ≤ result }
+    {
+        (self.jobs as usize).saturating_mul(DESKS_A_JOB)
+    }
+
+    /// The desks of the jobs. Fails only for want of memory.
     fn desks<W: Drop, S: System<Workspace = W>>(
         &self,
         alloc: Global,
         system: &S,
     ) -> Result<Vec<Desk<W>>, AllocError>
-        ensures count { IfOk result (λ desks. length desks.items ≡ self.now.jobs) }
+        ensures count { IfOk result (λ desks. self.now.jobs ≤ length desks.items) }
         ensures desks { IfOk result (λ desks.
             AllAre (IsDesk (S.word_count system.now) (S.is_workspace system.now)) desks.items) }
     {
         let mut desks = Vec::new(alloc);
-        for _ in 0..self.jobs {
+        for _ in 0..self.desk_count() {
             desks.push(Desk::new(alloc, system)?)?;
         }
         Ok(desks)
@@ -133,7 +143,7 @@ impl<'r, R: Threads + Sync> Jobs<'r, R> {
         ensures some { 0 < result }
         ensures within { result ≤ left }
     {
-        let desks = self.jobs.max(1) as usize;
+        let desks = self.desk_count().max(1);
         left.min(MOST_AT_DESK.saturating_mul(desks))
     }
 
@@ -227,7 +237,6 @@ impl<'r, R: Threads + Sync> Jobs<'r, R> {
                 Some(stop) => return Ok(Some(stop)),
                 None => {}
             }
-            give_back(system, desks, expansions);
             expansions = more;
             let Some(places) = search.turn(system) else {
                 return Ok(Some(Stop::Done));

@@ -9,11 +9,11 @@ use Rattle.apex_states.specs.Halves.{part_of, rest_of, words_at, IsHalf, IsNumbe
 use Rattle.apex_states.specs.Nodes.{spread, IsExact, IsHeld, IsTree}
 use Rattle.apex_states.proofs.Trees.{words_of-tree, IsHeld-refl, IsHeld-trans, IsTree-held, IsTree-same}
 
-take_front : (xs ys : List ℕ) → take (length xs) (xs ++ ys) ≡ xs
+pub take_front : (xs ys : List ℕ) → take (length xs) (xs ++ ys) ≡ xs
 take_front [] ys = refl
 take_front (x ∷ xs) ys = ap (λ zs. x ∷ zs) (take_front xs ys)
 
-drop_front : (xs ys : List ℕ) → drop (length xs) (xs ++ ys) ≡ ys
+pub drop_front : (xs ys : List ℕ) → drop (length xs) (xs ++ ys) ≡ ys
 drop_front [] ys = refl
 drop_front (x ∷ xs) ys = drop_front xs ys
 

@@ -1,37 +1,24 @@
 -- States that were found, whose halves are numbered one after the other.
-use Rattle.std.proofs.Common.{◌≡◌, ℕ, ◌+◌, ◌/◌, ◌%◌, ◌^◌, ◌<◌, List, [], ◌∷◌, ◌++◌, length, length-append, Some, refl, sym, ap, ◌∙◌, subst, inl, inr, arith}
-use Rattle.std.proofs.lemmas.List.{flat_map_more}
-use Rattle.std.proofs.lemmas.Option.{same_Some, slice_get_within}
-use Rattle.std.specs.List.{slice_get}
+use Rattle.std.proofs.Common.{◌≡◌, ℕ, ◌+◌, ◌-◌, ◌/◌, ◌%◌, ◌^◌, ◌<◌, List, [], ◌∷◌, ◌++◌, length, length-append, take, drop, replicate, get_or, Option, None, Some, ◌⊎◌, zero, suc, refl, sym, ap, ◌∙◌, subst, inl, inr, arith}
+use Rattle.std.proofs.lemmas.List.{flat_map_more, length-map}
+use Rattle.std.proofs.Math.Seq.{take-length}
+use Rattle.std.proofs.lemmas.Option.{same_Some, slice_get-get_or, slice_get_within}
+use Rattle.std.specs.List.{slice_get, slice_set}
 use Rattle.apex_states.specs.declared.expansions.Expansion.{Expansion}
 use Rattle.apex_states.specs.declared.halves.Half.{Half}
 use Rattle.apex_states.specs.declared.halves.Side.{Side}
 use Rattle.apex_states.specs.declared.halves.Side.TheVariants.{Left, Right}
 use Rattle.apex_states.specs.Expansions.{found_in, IsWide}
-use Rattle.apex_states.specs.Finds.{Found}
+use Rattle.apex_states.specs.Finds.{found_of, Found}
 use Rattle.apex_states.specs.Halves.{number_on, part_of, IsHalf, IsNumber, StillHas}
-use Rattle.apex_states.specs.Keeping.{AreAllNumbered, AreNumbered, ArePaired, CanNumber, HasHalf}
+use Rattle.apex_states.specs.Keeping.{AreAllNumbered, AreFound, AreNumbered, ArePaired, AreTranslated}
 use Rattle.apex_states.specs.Lists.{AllAre}
-use Rattle.apex_states.specs.States.{IsRoot, Reached}
+use Rattle.apex_states.specs.States.{seen, state_of, IsRoot, IsSided, IsStored, Reached}
 use Rattle.apex_states.proofs.Fronts.{at_old_place, get_append, IsFront-append, IsFront-push}
 use Rattle.apex_states.proofs.Gathering.{get_last}
-use Rattle.apex_states.proofs.Halving.{parts_whole, IsNumber-held, StillHas-trans}
+use Rattle.apex_states.proofs.Halving.{parts_whole, take_front, drop_front, words_at-is, IsNumber-held, StillHas-refl, StillHas-trans}
 use Rattle.apex_states.proofs.Probing.{last_or_before}
-use Rattle.apex_states.proofs.Storing.{IsRoot-numbered}
-
--- the number of the half of a parent
-pub parent_number : (old new : Half) (rows : List (List ℕ)) (place pair number : ℕ) (side : Side)
-    → AllAre (HasHalf old) rows → StillHas old new → slice_get rows place ≡ Some (pair ∷ []) → side ≡ new.side → number ≡ number_on side pair
-    → (words : List ℕ) × IsNumber new number words
-parent_number old new rows place pair number side valid has there side_is number_is =
-    let has_half = valid place (pair ∷ []) there in
-    let e : has_half.pair ≡ pair = sym (same_head pair has_half.pair has_half.row_is) in
-    let Number : ℕ → Type 0 = λ n. IsNumber new n has_half.words in
-    let same : number_on old.side has_half.pair ≡ number = ap (number_on old.side) e ∙ (ap (λ s. number_on s pair) (sym has.side ∙ sym side_is) ∙ sym number_is) in
-    (has_half.words, subst Number same (IsNumber-held old new (number_on old.side has_half.pair) has_half.words has has_half.number))
-  where
-    same_head : (a b : ℕ) → a ∷ [] ≡ b ∷ [] → a ≡ b
-    same_head a b same = cc
+use Rattle.apex_states.proofs.Storing.{root_at, IsRoot-numbered}
 
 -- the number on the same side of a half that still has it
 number_still : (old new half : Half) (number : ℕ) (k : List ℕ) → half.side ≡ old.side → half.width ≡ old.width → IsNumber new number (part_of old.side old.width k) → IsNumber new number (part_of half.side half.width k)
@@ -39,53 +26,175 @@ number_still old new half number k side width is =
     let Part : Side → ℕ → Type 0 = λ s n. IsNumber new number (part_of s n k) in
     subst (λ s. Part s half.width) (sym side) (subst (Part old.side) (sym width) is)
 
--- the states before `place` are numbered
-pub record IsNumbering (found : Found) (old half : Half) (numbers : List ℕ) (place : ℕ) : Type 0 where
+-- Numbers on one side of the states.
+
+same_head : (a b : ℕ) → a ∷ [] ≡ b ∷ [] → a ≡ b
+same_head a b same = cc
+
+pub IsSided-next : (roots : Reached) (side : Side) (numbers : List ℕ) (place number pair : ℕ)
+    → slice_get roots.states place ≡ Some (pair ∷ []) → number ≡ number_on side pair
+    → IsSided roots side numbers place → IsSided roots side (numbers ++ number ∷ []) (place + 1)
+IsSided-next roots side numbers place number pair there is so_far = record {
+  count_is = omega (arith, length-append numbers (number ∷ []), so_far.count_is);
+  each = λ at other at_is. elim (last_or_before numbers number at other at_is) [
+    | inl before ↦ so_far.each at other before
+    | inr (at_last, same) ↦
+        let e : at ≡ place = omega (arith, at_last, so_far.count_is) in
+        (pair, ap (slice_get roots.states) e ∙ there, sym same ∙ is)
+  ];
+}
+
+-- the halves of a state at a place, if these are the numbers on this side
+pub numbered_left : (roots : Reached) (left right : Half) (numbers : List ℕ) → IsStored roots left right → IsSided roots Left numbers (length roots.states)
+    → AreNumbered left (found_of (seen roots left right)) numbers
+numbered_left roots left right numbers stored sided = record {
+  count = sided.count_is ∙ sym (length-map roots.states (state_of left right));
+  each = λ place number k there is.
+      let (pair, here, number_is) = sided.each place number there in
+      let (row, row_is, root) = root_at left right roots.states place k stored.valid is in
+      let e : root.pair ≡ pair = same_head root.pair pair (sym root.row_is ∙ same_Some row (pair ∷ []) (sym row_is ∙ here)) in
+      let part : part_of left.side left.width k ≡ root.front =
+      ap (λ s. part_of s left.width k) stored.left_side ∙ (ap (take left.width) root.whole
+      ∙ (ap (λ n. take n (root.front ++ root.back)) (sym root.front_is.long) ∙ take_front root.front root.back)) in
+      let long : length k ≡ left.width + right.width = ap length root.whole ∙ omega (arith, length-append root.front root.back, root.front_is.long, root.back_is.long) in
+      let is_number : IsNumber left number root.front = subst (λ n. IsNumber left n root.front) (ap (λ p. p / 2 ^ 32) e ∙ sym number_is) root.front_is in
+      (long, subst (IsNumber left number) (sym part) is_number);
+}
+
+pub numbered_right : (roots : Reached) (left right : Half) (numbers : List ℕ) → IsStored roots left right → IsSided roots Right numbers (length roots.states)
+    → AreNumbered right (found_of (seen roots left right)) numbers
+numbered_right roots left right numbers stored sided = record {
+  count = sided.count_is ∙ sym (length-map roots.states (state_of left right));
+  each = λ place number k there is.
+      let (pair, here, number_is) = sided.each place number there in
+      let (row, row_is, root) = root_at left right roots.states place k stored.valid is in
+      let e : root.pair ≡ pair = same_head root.pair pair (sym root.row_is ∙ same_Some row (pair ∷ []) (sym row_is ∙ here)) in
+      let long : length k ≡ left.width + right.width = ap length root.whole ∙ omega (arith, length-append root.front root.back, root.front_is.long, root.back_is.long) in
+      let before : length k - right.width ≡ length root.front = omega (arith, long, root.front_is.long) in
+      let part : part_of right.side right.width k ≡ root.back =
+      ap (λ s. part_of s right.width k) stored.right_side ∙ (ap (λ n. drop n k) before
+      ∙ (ap (drop (length root.front)) root.whole ∙ drop_front root.front root.back)) in
+      let is_number : IsNumber right number root.back = subst (λ n. IsNumber right n root.back) (ap (λ p. p % 2 ^ 32) e ∙ sym number_is) root.back_is in
+      (long, subst (IsNumber right number) (sym part) is_number);
+}
+
+-- Numbers of known halves that are translated, one after the other.
+
+-- a half of these words, of which there are no more, is all of them
+pub part_whole : (side : Side) (width : ℕ) (words : List ℕ) → length words ≡ width → part_of side width words ≡ words
+part_whole Left width words long = ap (λ n. take n words) (sym long) ∙ take-length words
+part_whole Right width words long =
+    let none : length words - width ≡ 0 = omega (arith, long) in
+    ap (λ n. drop n words) none
+
+-- the number is that of the known half
+pub known_number : (known half : Half) (side : Side) (width number translated : ℕ) (words k : List ℕ)
+    → length words ≡ width → IsNumber known number words → IsNumber half translated (part_of side width words)
+    → IsNumber known number k → IsNumber half translated k
+known_number known half side width number translated words k long is numbered other =
+    let same : words ≡ k = sym (words_at-is known number words is) ∙ words_at-is known number k other in
+    subst (IsNumber half translated) (part_whole side width words long ∙ same) numbered
+
+-- what was found is right still, once there are more halves
+AreFound-held : (known half new : Half) (found : List (Option ℕ)) → StillHas half new → AreFound known half found → AreFound known new found
+AreFound-held known half new found has are number translated k there is = IsNumber-held half new translated k has (are number translated k there is)
+
+some_none : (x : ℕ) → Some x ≡ None → ⊥
+some_none x same = cc
+
+same_some : (x y : ℕ) → Some x ≡ Some y → x ≡ y
+same_some x y same = cc
+
+-- what is read after a slot was set is what was set, or was there before
+set_back : (found : List (Option ℕ)) (slot other : ℕ) (x y : Option ℕ) → slice_get (slice_set found slot x) other ≡ Some y → ((other ≡ slot) × (x ≡ y)) ⊎ (slice_get found other ≡ Some y)
+set_back [] slot other x y is = inr is
+set_back (z ∷ found) zero zero x y is = inl (refl, same_Some x y is)
+set_back (z ∷ found) zero (suc other) x y is = inr is
+set_back (z ∷ found) (suc slot) zero x y is = inr is
+set_back (z ∷ found) (suc slot) (suc other) x y is = elim (set_back found slot other x y is) [
+  | inl (e, same) ↦ inl (ap suc e, same)
+  | inr before ↦ inr before
+]
+
+-- one more is found
+pub AreFound-set : (known half new : Half) (found : List (Option ℕ)) (number translated : ℕ) → StillHas half new
+    → ((k : List ℕ) → IsNumber known number k → IsNumber new translated k)
+    → AreFound known half found → AreFound known new (slice_set found number (Some translated))
+AreFound-set known half new found number translated has right are other among k there is = elim (set_back found number other (Some translated) (Some among) there) [
+  | inl (e, same) ↦ subst (λ n. IsNumber new n k) (same_some translated among same) (right k (subst (λ n. IsNumber known n k) e is))
+  | inr before ↦ IsNumber-held half new among k has (are other among k before is)
+]
+
+-- those before `place` are translated
+pub record IsTranslating (known old half : Half) (numbers among : List ℕ) (found : List (Option ℕ)) (place : ℕ) : Type 0 where
   pub is_half : IsHalf half
   pub has : StillHas old half
-  pub count : length numbers ≡ place
-  pub each : (at number : ℕ) (k : List ℕ) → slice_get numbers at ≡ Some number → slice_get found.states at ≡ Some k
-      → (length k ≡ found.width) × IsNumber half number (part_of half.side half.width k)
+  pub count : length among ≡ place
+  pub each : (at number translated : ℕ) (k : List ℕ) → slice_get numbers at ≡ Some number → slice_get among at ≡ Some translated
+      → IsNumber known number k → IsNumber half translated k
+  pub found_are : AreFound known half found
 
-pub IsNumbering-next : (found : Found) (old half restored new : Half) (numbers : List ℕ) (place number : ℕ) (k : List ℕ)
-    → slice_get found.states place ≡ Some k → length k ≡ found.width
-    → StillHas half restored → StillHas restored new → IsHalf new
-    → IsNumber new number (part_of restored.side restored.width k)
-    → IsNumbering found old half numbers place → IsNumbering found old new (numbers ++ number ∷ []) (place + 1)
-IsNumbering-next found old half restored new numbers place number k here long first second is_half number_is so_far =
-    let has = StillHas-trans half restored new first second in
-    let Numbered : ℕ → List ℕ → Type 0 = λ n l. (length l ≡ found.width) × IsNumber new n (part_of new.side new.width l) in
-    let last : Numbered number k = (long, number_still restored new new number k second.side second.width number_is) in
-    record {
-      is_half = is_half;
-      has = StillHas-trans old half new so_far.has has;
-      count = omega (arith, length-append numbers (number ∷ []), so_far.count);
-      each = λ at other l there is. elim (last_or_before numbers number at other there) [
-        | inl before ↦
-            let was = so_far.each at other l before is in
-            let held : IsNumber new other (part_of half.side half.width l) = IsNumber-held half new other (part_of half.side half.width l) has was.1 in
-            (was.0, number_still half new new other l has.side has.width held)
-        | inr (at_is, same) ↦
-            let e : at ≡ place = omega (arith, at_is, so_far.count) in
-            let there' : slice_get found.states place ≡ Some l = ap (slice_get found.states) (sym e) ∙ is in
-            let l_is : k ≡ l = same_Some k l (sym here ∙ there') in
-            subst (λ n. Numbered n l) same (subst (Numbered number) l_is last)
-      ];
-    }
+-- each of as many vacant slots is none
+pub all_none : (count place : ℕ) (x : Option ℕ) → slice_get (replicate count None) place ≡ Some x → x ≡ None
+all_none zero place x is = cc
+all_none (suc count) zero x is = cc
+all_none (suc count) (suc place) x is = all_none count place x is
+
+-- nothing is translated yet
+pub IsTranslating-none : (known half : Half) (numbers among : List ℕ) (found : List (Option ℕ)) → IsHalf half → among ≡ []
+    → ((number : ℕ) (x : Option ℕ) → slice_get found number ≡ Some x → x ≡ None)
+    → IsTranslating known half half numbers among found 0
+IsTranslating-none known half numbers among found is_half none vacant = record {
+  is_half = is_half;
+  has = StillHas-refl half;
+  count = ap length none;
+  each = λ at other m k number_is there is.
+      let past : at < length among = slice_get_within among at m there in
+      absurd (omega (arith, past, ap length none));
+  found_are = λ number m k there is.
+      absurd (some_none m (vacant number (Some m) there));
+}
+
+pub IsTranslating-next : (known old half new : Half) (numbers among : List ℕ) (found found' : List (Option ℕ)) (place number translated : ℕ)
+    → slice_get numbers place ≡ Some number → StillHas half new → IsHalf new → AreFound known new found'
+    → ((k : List ℕ) → IsNumber known number k → IsNumber new translated k)
+    → IsTranslating known old half numbers among found place → IsTranslating known old new numbers (among ++ translated ∷ []) found' (place + 1)
+IsTranslating-next known old half new numbers among found found' place number translated here has is_half are right so_far = record {
+  is_half = is_half;
+  has = StillHas-trans old half new so_far.has has;
+  count = omega (arith, length-append among (translated ∷ []), so_far.count);
+  each = λ at other m k number_is there is. elim (last_or_before among translated at m there) [
+    | inl before ↦ IsNumber-held half new m k has (so_far.each at other m k number_is before is)
+    | inr (at_last, same) ↦
+        let e : at ≡ place = omega (arith, at_last, so_far.count) in
+        let other_is : other ≡ number = same_Some other number (sym number_is ∙ (ap (slice_get numbers) e ∙ here)) in
+        subst (λ n. IsNumber new n k) same (right k (subst (λ n. IsNumber known n k) other_is is))
+  ];
+  found_are = are;
+}
+
+-- each number is that of a half
+pub have_words : (half : Half) (found : Found) (numbers : List ℕ) → AreNumbered half found numbers → AllAre (λ number. (k : List ℕ) × IsNumber half number k) numbers
+have_words half found numbers numbered place number there =
+    let short : place < length found.states = omega (arith, slice_get_within numbers place number there, numbered.count) in
+    let k = get_or found.states place [] in
+    (part_of half.side half.width k, (numbered.each place number k there (slice_get-get_or found.states place [] short)).1)
+
+-- the numbers are those of the same halves among others
+pub AreNumbered-translated : (known half new : Half) (found : Found) (numbers among : List ℕ)
+    → known.side ≡ half.side → known.width ≡ half.width → StillHas half new
+    → AreNumbered known found numbers → AreTranslated known new numbers among → AreNumbered new found among
+AreNumbered-translated known half new found numbers among side width has numbered translated = record {
+  count = translated.count ∙ numbered.count;
+  each = λ place number k there is.
+      let short : place < length numbers = omega (arith, slice_get_within among place number there, translated.count) in
+      let at = slice_get-get_or numbers place 0 short in
+      let was = numbered.each place (get_or numbers place 0) k at is in
+      let still = translated.each place (get_or numbers place 0) number (part_of known.side known.width k) at there was.1 in
+      (was.0, number_still known new new number k (has.side ∙ sym side) (has.width ∙ sym width) still);
+}
 
 -- Expansions, one after the other.
-
--- what can be numbered still can be, once some is
-pub CanNumber-held : (old new : Half) (roots : Reached) (found : Found) → StillHas old new → IsHalf new → CanNumber old roots found → CanNumber new roots found
-CanNumber-held old new roots found has is_half can = record {
-  is_half = is_half;
-  valid = λ place row there.
-      let was = can.valid place row there in
-      let Number : Side → Type 0 = λ side. IsNumber new (number_on side was.pair) was.words in
-      record { pair = was.pair; words = was.words; row_is = was.row_is; number = subst Number (sym has.side) (IsNumber-held old new (number_on old.side was.pair) was.words has was.number) };
-  wide = omega (arith, has.width, can.wide);
-  parents = can.parents;
-}
 
 -- numbers that are put behind others
 AreNumbered-append : (half new : Half) (width : ℕ) (found other both : Found) (numbers more : List ℕ) → StillHas half new

@@ -1,5 +1,5 @@
 -- States that were found and whose roots are kept.
-use Rattle.std.proofs.Common.{◌≡◌, ℕ, zero, suc, ◌+◌, ◌<◌, Bool, true, false, List, [], ◌∷◌, length, map, Some, refl, sym, ap, ◌∙◌, subst, arith, get_or, inl, inr}
+use Rattle.std.proofs.Common.{◌≡◌, ℕ, zero, suc, ◌+◌, ◌-◌, ◌/◌, ◌<◌, Bool, true, false, List, [], ◌∷◌, length, map, Some, refl, sym, ap, ◌∙◌, subst, arith, get_or, inl, inr}
 use Rattle.std.proofs.lemmas.Bool.{cases_lt}
 use Rattle.std.proofs.lemmas.List.{length-map}
 use Rattle.std.proofs.lemmas.Option.{same_Some, slice_get-get_or, slice_get-map, slice_get_within}
@@ -8,7 +8,7 @@ use Rattle.std.specs.Option.{option_map}
 use Rattle.apex_states.specs.declared.expansions.Expansion.{Expansion}
 use Rattle.apex_states.specs.declared.halves.Half.{Half}
 use Rattle.apex_states.specs.declared.states.Origin.{Origin}
-use Rattle.apex_states.specs.Expansions.{found_in, states_of, ComesFrom, IsWide}
+use Rattle.apex_states.specs.Expansions.{found_in, states_of, IsWide}
 use Rattle.apex_states.specs.Finds.{AreKept, AreThere, Found, GoesOnWith, IsFind}
 use Rattle.apex_states.specs.Halves.{IsHalf, StillHas}
 use Rattle.apex_states.specs.Index.{IsKnown}
@@ -17,33 +17,21 @@ use Rattle.apex_states.specs.Keeping.{roots_found, AreAllNumbered, ArePaired, Ca
 use Rattle.apex_states.specs.States.{seen, state_of, states_in, IsRoot, IsStored, Reached}
 use Rattle.apex_states.proofs.Fronts.{at_old_place}
 use Rattle.apex_states.proofs.Numbering.{roots_numbered}
-use Rattle.apex_states.proofs.Storing.{left_rows, right_rows, root_at, same_root, seen_held, state_at, AreRoots, IsStored-held}
+use Rattle.apex_states.proofs.Storing.{root_at, same_root, seen_held, state_at, AreRoots, IsStored-held}
 
 -- the halves of the states that were found in expansions can be numbered
-pub can_number_left : (roots : Reached) (left right : Half) (expansions : List Expansion) → IsStored roots left right → AllAre (ComesFrom (seen roots left right)) expansions → CanNumberAll left roots expansions
-can_number_left roots left right expansions stored come = record {
+pub can_number_left : (roots : Reached) (left right : Half) (expansions : List Expansion) → IsStored roots left right → AllAre (IsWide (left.width + right.width)) expansions → CanNumberAll left expansions
+can_number_left roots left right expansions stored wide = record {
   is_half = stored.left_half;
-  each = λ place expansion is.
-      let from = come place expansion is in
-      record {
-        is_half = stored.left_half;
-        valid = left_rows roots left right stored;
-        wide = omega (arith, from.width);
-        parents = λ at origin there. omega (arith, from.parents at origin there, length-map roots.states (state_of left right));
-      };
+  each = λ place expansion is. rw (stored.left_side, wide place expansion is) stored.middle;
 }
 
-pub can_number_right : (roots : Reached) (left right : Half) (expansions : List Expansion) → IsStored roots left right → AllAre (ComesFrom (seen roots left right)) expansions → CanNumberAll right roots expansions
-can_number_right roots left right expansions stored come = record {
+pub can_number_right : (roots : Reached) (left right : Half) (expansions : List Expansion) → IsStored roots left right → AllAre (IsWide (left.width + right.width)) expansions → CanNumberAll right expansions
+can_number_right roots left right expansions stored wide = record {
   is_half = stored.right_half;
   each = λ place expansion is.
-      let from = come place expansion is in
-      record {
-        is_half = stored.right_half;
-        valid = right_rows roots left right stored;
-        wide = omega (arith, from.width);
-        parents = λ at origin there. omega (arith, from.parents at origin there, length-map roots.states (state_of left right));
-      };
+      let rest : right.width ≡ left.width + right.width - (left.width + right.width) / 2 = omega (arith, stored.middle) in
+      rw (stored.right_side, wide place expansion is) rest;
 }
 
 single_back : (pairs : List ℕ) (place : ℕ) (row : List ℕ) → slice_get (map (λ pair. pair ∷ []) pairs) place ≡ Some row → (pair : ℕ) × (slice_get pairs place ≡ Some pair) × (row ≡ pair ∷ [])
@@ -94,7 +82,7 @@ module _ (roots roots' : Reached) (left right left' right' : Half) (found : Foun
         ]
 
     pub IsStored-all : IsStored roots' left' right'
-    IsStored-all = record { left_half = half; right_half = half'; left_side = on.left_side; right_side = on.right_side; valid = valid }
+    IsStored-all = record { left_half = half; right_half = half'; left_side = on.left_side; right_side = on.right_side; middle = on.middle; valid = valid }
 
     goes_on_seen : GoesOnWith found (seen roots left' right') (seen roots' left' right')
     goes_on_seen =
@@ -137,23 +125,21 @@ module _ (roots roots' : Reached) (left right left' right' : Half) (found : Foun
 
 -- there are as many numbers of either side as states that were found in expansions
 pub counts_found : (roots : Reached) (left right left' right' : Half) (expansions : List Expansion) (lefts rights : List ℕ)
-    → AllAre (ComesFrom (seen roots left right)) expansions
+    → AllAre (IsWide (left.width + right.width)) expansions
     → AreAllNumbered left' expansions lefts → AreAllNumbered right' expansions rights
     → (length lefts ≡ length (states_of expansions)) × (length rights ≡ length (states_of expansions))
-counts_found roots left right left' right' expansions lefts rights come lefts_are rights_are =
-    let wide : AllAre (IsWide (left.width + right.width)) expansions = λ place expansion is. (come place expansion is).width in
+counts_found roots left right left' right' expansions lefts rights wide lefts_are rights_are =
     ((lefts_are.whole (left.width + right.width) wide).count, (rights_are.whole (left.width + right.width) wide).count)
 
 -- what came of states that were found in expansions, once their halves were numbered and their roots entered
 pub kept_all : (roots roots' : Reached) (left right left' right' : Half) (expansions : List Expansion) (lefts rights pairs : List ℕ) (kept : Bool)
     → IsStored roots left right → StillHas left left' → StillHas right right' → IsHalf left' → IsHalf right'
-    → AllAre (ComesFrom (seen roots left right)) expansions
+    → AllAre (IsWide (left.width + right.width)) expansions
     → AreAllNumbered left' expansions lefts → AreAllNumbered right' expansions rights → ArePaired lefts rights pairs
     → AreKept (roots_found pairs (found_in (left.width + right.width) expansions).origins) roots roots' kept
     → IsStored roots' left' right' × AreKept (found_in (left.width + right.width) expansions) (seen roots left right) (seen roots' left' right') kept
-kept_all roots roots' left right left' right' expansions lefts rights pairs kept stored has has' half half' come lefts_are rights_are paired are =
+kept_all roots roots' left right left' right' expansions lefts rights pairs kept stored has has' half half' wide lefts_are rights_are paired are =
     let found = found_in (left.width + right.width) expansions in
-    let wide : AllAre (IsWide (left.width + right.width)) expansions = λ place expansion is. (come place expansion is).width in
     let one = lefts_are.whole (left.width + right.width) wide in
     let other = rights_are.whole (left.width + right.width) wide in
     let count : length pairs ≡ length found.states = paired.count ∙ one.count in

@@ -8,9 +8,8 @@ use Rattle.apex_states.specs.declared.halves.Half.{Half}
 use Rattle.apex_states.specs.declared.halves.Side.{Side}
 use Rattle.apex_states.specs.declared.halves.Side.TheVariants.{Left, Right}
 use Rattle.apex_states.specs.declared.states.Origin.{Origin}
-use Rattle.apex_states.specs.Halves.{number_on, part_of, words_at, IsHalf, IsNumber, StillHas}
+use Rattle.apex_states.specs.Halves.{part_of, words_at, IsHalf, IsNumber, StillHas}
 use Rattle.apex_states.specs.Index.{IsKnown}
-use Rattle.apex_states.specs.Keeping.{HasHalf}
 use Rattle.apex_states.specs.Lists.{AllAre}
 use Rattle.apex_states.specs.Nodes.{IsExact}
 use Rattle.apex_states.specs.Registers.{AreApart}
@@ -79,19 +78,6 @@ states_apart left right rows exact exact' valid apart first second k one other =
 pub stored_apart : (roots : Reached) (left right : Half) → IsStored roots left right → AreApart roots.states → AreApart (states_in left right roots.states)
 stored_apart roots left right stored apart = states_apart left right roots.states stored.left_half.exact stored.right_half.exact stored.valid apart
 
--- the number of a half in each row
-pub left_rows : (roots : Reached) (left right : Half) → IsStored roots left right → AllAre (HasHalf left) roots.states
-left_rows roots left right stored place row there =
-    let (state, root) = stored.valid place row there in
-    let Number : ℕ → Type 0 = λ n. IsNumber left n root.front in
-    record { pair = root.pair; words = root.front; row_is = root.row_is; number = subst Number (ap (λ side. number_on side root.pair) (sym stored.left_side)) root.front_is }
-
-pub right_rows : (roots : Reached) (left right : Half) → IsStored roots left right → AllAre (HasHalf right) roots.states
-right_rows roots left right stored place row there =
-    let (state, root) = stored.valid place row there in
-    let Number : ℕ → Type 0 = λ n. IsNumber right n root.back in
-    record { pair = root.pair; words = root.back; row_is = root.row_is; number = subst Number (ap (λ side. number_on side root.pair) (sym stored.right_side)) root.back_is }
-
 -- the halves of the state at a place
 pub root_here : (roots : Reached) (left right : Half) (place pair : ℕ) → IsStored roots left right → slice_get roots.states place ≡ Some (pair ∷ [])
     → (front : List ℕ) × (back : List ℕ) × IsNumber left (pair / 2 ^ 32) front × IsNumber right (pair % 2 ^ 32) back
@@ -138,6 +124,7 @@ IsStored-held roots left right left' right' stored has has' half half' = record 
   right_half = half';
   left_side = has.side ∙ stored.left_side;
   right_side = has'.side ∙ stored.right_side;
+  middle = rw (has.width, has'.width) stored.middle;
   valid = AreRoots-held left right left' right' roots.states has has' stored.valid;
 }
 
@@ -218,6 +205,7 @@ module _ (roots roots' : Reached) (left right left' right' : Half) (row k : List
     right_half = half';
     left_side = on.left_side;
     right_side = on.right_side;
+    middle = on.middle;
     valid = λ place other there. elim (last_or_before roots.states row place other there) [
       | inl before ↦ on.valid place other before
       | inr last ↦ (k, subst (λ r. IsRoot left' right' r k) last.1 root)

@@ -1,10 +1,9 @@
 -- What was found in expansions, one after the other.
-use Rattle.std.specs.Prelude.{◌≡◌, ℕ, ◌<◌, List, length, Some, slice_get}
+use Rattle.std.specs.Prelude.{◌≡◌, ℕ, List}
 use Rattle.std.specs.List.{flat_map}
 use Rattle.apex_states.specs.declared.expansions.Expansion.{Expansion}
 use Rattle.apex_states.specs.declared.states.Origin.{Origin}
 use Rattle.apex_states.specs.Finds.{Found}
-use Rattle.apex_states.specs.States.{Reached}
 
 -- the states of the expansion have this many words
 abbrev pub IsWide : ℕ → Expansion → Type 0
@@ -22,10 +21,3 @@ origins_of expansions = flat_map (λ (expansion : Expansion). expansion.finds.or
 abbrev pub found_in : ℕ → List Expansion → Found
 found_in width expansions =
     record { width = width; states = states_of expansions; origins = origins_of expansions }
-
--- the states of the expansion have as many words as those that were reached, and come from these
-pub record ComesFrom (reached : Reached) (expansion : Expansion) : Type 0 where
-  pub width : IsWide reached.width expansion
-  pub parents : (place : ℕ) (origin : Origin)
-      → slice_get expansion.finds.origins place ≡ Some origin
-      → origin.parent < length reached.states

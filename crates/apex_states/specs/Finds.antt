@@ -11,6 +11,11 @@ pub record Found : Type 0 where
   pub states : List (List ℕ)
   pub origins : List Origin
 
+-- states as if they were to be kept
+abbrev pub found_of : Reached → Found
+found_of reached =
+    record { width = reached.width; states = reached.states; origins = reached.origins }
+
 -- no states yet
 abbrev pub no_finds : ℕ → Found
 no_finds width = record { width = width; states = []; origins = [] }

@@ -11,6 +11,11 @@ abbrev pub part_of : Side → ℕ → List ℕ → List ℕ
 part_of Left width state = take width state
 part_of Right width state = drop (length state - width) state
 
+-- how many words of a state of this width are on this side
+abbrev pub width_on : Side → ℕ → ℕ
+width_on Left width = width / 2
+width_on Right width = width - width / 2
+
 -- the number on this side of a pair
 abbrev pub number_on : Side → ℕ → ℕ
 number_on Left pair = pair / 2 ^ 32

@@ -1,33 +1,31 @@
 -- States that were found, of which the halves are numbered.
-use Rattle.std.specs.Prelude.{◌≡◌, ℕ, ◌/◌, ◌%◌, ◌^◌, ◌<◌, ◌≤◌, List, [], ◌∷◌, length, map, slice_get, Some}
+use Rattle.std.specs.Prelude.{◌≡◌, ℕ, ◌/◌, ◌%◌, ◌^◌, List, [], ◌∷◌, length, map, slice_get, Option, Some}
 use Rattle.apex_states.specs.declared.expansions.Expansion.{Expansion}
 use Rattle.apex_states.specs.declared.halves.Half.{Half}
 use Rattle.apex_states.specs.declared.states.Origin.{Origin}
 use Rattle.apex_states.specs.Expansions.{found_in, IsWide}
 use Rattle.apex_states.specs.Finds.{Found}
-use Rattle.apex_states.specs.Halves.{IsHalf, IsNumber, number_on, part_of}
+use Rattle.apex_states.specs.Halves.{IsHalf, IsNumber, part_of, width_on}
 use Rattle.apex_states.specs.Lists.{AllAre}
-use Rattle.apex_states.specs.States.{Reached}
-
--- the row is a pair, and the number on this side is that of some words
-pub record HasHalf (half : Half) (row : List ℕ) : Type 0 where
-  pub pair : ℕ
-  pub words : List ℕ
-  pub row_is : row ≡ pair ∷ []
-  pub number : IsNumber half (number_on half.side pair) words
-
--- the half of each state that was found can be numbered
-pub record CanNumber (half : Half) (roots : Reached) (found : Found) : Type 0 where
-  pub is_half : IsHalf half
-  pub valid : AllAre (HasHalf half) roots.states
-  pub wide : half.width ≤ found.width
-  pub parents : (place : ℕ) (origin : Origin) → slice_get found.origins place ≡ Some origin
-      → origin.parent < length roots.states
 
 -- the half of each state that was found in the expansions can be numbered
-pub record CanNumberAll (half : Half) (roots : Reached) (expansions : List Expansion) : Type 0 where
+pub record CanNumberAll (half : Half) (expansions : List Expansion) : Type 0 where
   pub is_half : IsHalf half
-  pub each : AllAre (λ (expansion : Expansion). CanNumber half roots expansion.finds) expansions
+  pub each : AllAre (λ (expansion : Expansion).
+      half.width ≡ width_on half.side expansion.finds.width) expansions
+
+-- what was found at the place of a number is that of the known half with that number
+abbrev pub AreFound : Half → Half → List (Option ℕ) → Type 0
+AreFound known half found = (number translated : ℕ) (k : List ℕ)
+    → slice_get found number ≡ Some (Some translated)
+    → IsNumber known number k → IsNumber half translated k
+
+-- each number among these halves is that of the known half with the number at its place
+pub record AreTranslated (known half : Half) (numbers among : List ℕ) : Type 0 where
+  pub count : length among ≡ length numbers
+  pub each : (place number translated : ℕ) (k : List ℕ) → slice_get numbers place ≡ Some number
+      → slice_get among place ≡ Some translated
+      → IsNumber known number k → IsNumber half translated k
 
 -- the numbers are those of the halves of the states that were found
 pub record AreNumbered (half : Half) (found : Found) (numbers : List ℕ) : Type 0 where

@@ -1,9 +1,10 @@
 -- The states that a search has reached, as contracts see them, and what is kept of them in memory.
-use Rattle.std.specs.Prelude.{◌≡◌, ℕ, ◌+◌, ◌/◌, ◌%◌, ◌^◌, ◌⊎◌, Bool, true, false, List, [], ◌∷◌, ◌++◌, length, map}
+use Rattle.std.specs.Prelude.{◌≡◌, ℕ, ◌+◌, ◌/◌, ◌%◌, ◌^◌, ◌⊎◌, Bool, true, false, List, [], ◌∷◌, ◌++◌, length, map, slice_get, Some}
 use Rattle.apex_states.specs.declared.halves.Half.{Half}
+use Rattle.apex_states.specs.declared.halves.Side.{Side}
 use Rattle.apex_states.specs.declared.halves.Side.TheVariants.{Left, Right}
 use Rattle.apex_states.specs.declared.states.Origin.{Origin}
-use Rattle.apex_states.specs.Halves.{IsHalf, IsNumber, words_at}
+use Rattle.apex_states.specs.Halves.{IsHalf, IsNumber, number_on, words_at}
 use Rattle.apex_states.specs.Index.{IsKnown}
 use Rattle.apex_states.specs.Lists.{AllAre}
 
@@ -37,12 +38,20 @@ pub record IsRoot (left right : Half) (row state : List ℕ) : Type 0 where
   pub back_is : IsNumber right (pair % 2 ^ 32) back
   pub whole : state ≡ front ++ back
 
+-- the numbers are those on this side of the first rows, of which there are `count`
+pub record IsSided (roots : Reached) (side : Side) (numbers : List ℕ) (count : ℕ) : Type 0 where
+  pub count_is : length numbers ≡ count
+  pub each : (at number : ℕ) → slice_get numbers at ≡ Some number
+      → (pair : ℕ) × (slice_get roots.states at ≡ Some (pair ∷ []))
+      × (number ≡ number_on side pair)
+
 -- each row is that of a state
 pub record IsStored (roots : Reached) (left right : Half) : Type 0 where
   pub left_half : IsHalf left
   pub right_half : IsHalf right
   pub left_side : left.side ≡ Left
   pub right_side : right.side ≡ Right
+  pub middle : left.width ≡ (left.width + right.width) / 2
   pub valid : AllAre (λ row. (state : List ℕ) × IsRoot left right row state) roots.states
 
 -- the states whose roots are kept

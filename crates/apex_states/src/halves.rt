@@ -1,5 +1,5 @@
 //! The halves of states on one side, as trees of their words.
-ghost use Rattle.std.specs.Prelude.{◌≡◌, ℕ, ◌≤◌, ◌++◌, List, drop, length, IfOk};
+ghost use Rattle.std.specs.Prelude.{◌≡◌, ℕ, ◌<◌, ◌≤◌, ◌++◌, List, drop, length, IfOk};
 ghost use Rattle.apex_states.specs.Halves.{part_of, IsHalf, IsNumber, StillHas};
 
 use crate::nodes::Nodes;
@@ -116,6 +116,29 @@ impl Half {
         let (words, here) = (self.words.as_slice(), self.here.as_slice());
         self.nodes
             .number_like(alloc, DEPTH, words, here, self.number)
+    }
+
+    /// The number of the half of this state. Those that are numbered next are nearly that one. Fails only
+    /// for want of memory.
+    pub(crate) fn begin(&mut self, alloc: Global, state: &[u64]) -> Result<u32, AllocError>
+        requires half { IsHalf self.old }
+        requires state { self.old.width ≤ length state.now }
+        ensures number { IfOk result (λ number.
+            IsNumber self.new number (part_of self.old.side self.old.width state.now)) }
+        ensures held { StillHas self.old self.new }
+        ensures half { IsHalf self.new }
+    {
+        let number = self.number(alloc, state)?;
+        put_front(self.here.as_mut_slice(), part(self.side, self.width, state));
+        self.number = number;
+        Ok(number)
+    }
+
+    /// The number of each half is below this.
+    pub(crate) fn count(&self) -> usize
+        ensures { (number : ℕ) (k : List ℕ) → IsNumber self.now number k → number < result }
+    {
+        self.nodes.pair_count()
     }
 
     /// Restores the half with this number: those that are numbered next are nearly that one.

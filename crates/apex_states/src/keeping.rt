@@ -1,10 +1,11 @@
 //! States that were found are kept: their halves are numbered, by a thread for each side, and then the
 //! pairs of these numbers are entered.
-ghost use Rattle.std.specs.Prelude.{◌≡◌, length, IfOk};
+ghost use Rattle.std.specs.Prelude.{◌≡◌, ℕ, ◌<◌, List, length, IfOk};
 ghost use Rattle.apex_states.specs.Expansions.{origins_of, states_of};
 ghost use Rattle.apex_states.specs.Finds.{AreKept};
-ghost use Rattle.apex_states.specs.Halves.{IsHalf, StillHas};
-ghost use Rattle.apex_states.specs.Keeping.{roots_found, AreAllNumbered, AreNumbered, ArePaired, CanNumber, CanNumberAll};
+ghost use Rattle.apex_states.specs.Halves.{width_on, IsHalf, IsNumber, StillHas};
+ghost use Rattle.apex_states.specs.Keeping.{roots_found, AreAllNumbered, AreFound, AreNumbered, ArePaired, AreTranslated, CanNumberAll};
+ghost use Rattle.apex_states.specs.Lists.{AllAre};
 
 use crate::expansions::Expansion;
 use crate::finds::Finds;
@@ -15,26 +16,107 @@ use crate::states::Origin;
 use std::alloc::{AllocError, Global};
 use std::thread::{Threads, join_mut};
 
-/// The number of the half of each state that was found, in order. Of each, what it has in common with
-/// that of its parent is not looked up. Fails only for want of memory.
-fn number_finds(
+/// The number of the known half with this number among these halves. `room` is for the words of its tree,
+/// and `words` for its own. Fails only for want of memory.
+fn number_known(
     alloc: Global,
     half: &mut Half,
-    roots: &Roots,
-    finds: &Finds,
+    known: &Half,
+    number: u32,
+    room: &mut Vec<u64>,
+    words: &mut [u64],
+) -> Result<u32, AllocError>
+    requires half { IsHalf half.old }
+    requires known { IsHalf known.now }
+    requires width { known.now.width ≡ half.old.width }
+    requires number { (k : List ℕ) × IsNumber known.now number k }
+    requires words { length words.old ≡ known.now.width }
+    ensures number { IfOk result (λ among. (k : List ℕ)
+        → IsNumber known.now number k → IsNumber half.new among k) }
+    ensures words { length words.new ≡ length words.old }
+    ensures held { StillHas half.old half.new }
+    ensures half { IsHalf half.new }
+{
+    known.read(alloc, number, room, words)?;
+    half.begin(alloc, words)
+}
+
+/// The number of the known half with this number among these halves. It is looked up unless it was found
+/// before. `room` is for the words of its tree, and `words` for its own. Fails only for want of memory.
+fn translate(
+    alloc: Global,
+    half: &mut Half,
+    known: &Half,
+    number: u32,
+    found: &mut [Option<u32>],
+    room: &mut Vec<u64>,
+    words: &mut [u64],
+) -> Result<u32, AllocError>
+    requires half { IsHalf half.old }
+    requires known { IsHalf known.now }
+    requires width { known.now.width ≡ half.old.width }
+    requires number { (k : List ℕ) × IsNumber known.now number k }
+    requires found { AreFound known.now half.old found.old }
+    requires slot { number < length found.old }
+    requires words { length words.old ≡ known.now.width }
+    ensures number { IfOk result (λ among. (k : List ℕ)
+        → IsNumber known.now number k → IsNumber half.new among k) }
+    ensures found { IfOk result (λ _. AreFound known.now half.new found.new) }
+    ensures slots { length found.new ≡ length found.old }
+    ensures words { length words.new ≡ length words.old }
+    ensures held { StillHas half.old half.new }
+    ensures half { IsHalf half.new }
+{
+    match found[number as usize] {
+        Some(translated) => Ok(translated),
+        None => {
+            let translated = number_known(alloc, half, known, number, room, words)?;
+            found[number as usize] = Some(translated);
+            Ok(translated)
+        }
+    }
+}
+
+/// The numbers among these halves of the known ones with these numbers. What has the same number is looked
+/// up once. Fails only for want of memory.
+fn translate_all(
+    alloc: Global,
+    half: &mut Half,
+    known: &Half,
+    numbers: &[u32],
 ) -> Result<Vec<u32>, AllocError>
-    requires { CanNumber half.old roots.now finds.now }
+    requires half { IsHalf half.old }
+    requires known { IsHalf known.now }
+    requires width { known.now.width ≡ half.old.width }
+    requires numbers { AllAre (λ number. (k : List ℕ) × IsNumber known.now number k) numbers.now }
+    ensures numbers { IfOk result (λ among.
+        AreTranslated known.now half.new numbers.now among.items) }
+    ensures held { StillHas half.old half.new }
+    ensures half { IsHalf half.new }
+{
+    let mut among = Vec::with_capacity(alloc, numbers.len())?;
+    let mut found = vec![in alloc; None; known.count()]?;
+    let found = found.as_mut_slice();
+    let mut room = Vec::new(alloc);
+    let mut words = vec![in alloc; 0; known.width()]?;
+    let words = words.as_mut_slice();
+    for place in 0..numbers.len() {
+        let number = numbers[place];
+        among.push(translate(alloc, half, known, number, found, &mut room, words)?)?;
+    }
+    Ok(among)
+}
+
+/// The number of the half of each state that was found, in order. Fails only for want of memory.
+fn number_finds(alloc: Global, half: &mut Half, finds: &Finds) -> Result<Vec<u32>, AllocError>
+    requires half { IsHalf half.old }
+    requires width { half.old.width ≡ width_on half.old.side finds.now.width }
     ensures numbers { IfOk result (λ numbers. AreNumbered half.new finds.now numbers.items) }
     ensures held { StillHas half.old half.new }
     ensures half { IsHalf half.new }
 {
-    let mut numbers = Vec::with_capacity(alloc, finds.len())?;
-    for place in 0..finds.len() {
-        let parent = finds.origin(place).parent as usize;
-        half.restore(roots.number(parent, half.side()));
-        numbers.push(half.number(alloc, finds.state(place))?)?;
-    }
-    Ok(numbers)
+    let (known, numbers) = finds.numbered(alloc, half.side())?;
+    translate_all(alloc, half, known, numbers.as_slice())
 }
 
 /// The number of the half of each state that was found in the expansions, in order. Fails only for want
@@ -42,10 +124,9 @@ fn number_finds(
 fn number_all(
     alloc: Global,
     half: &mut Half,
-    roots: &Roots,
     expansions: &[Expansion],
 ) -> Result<Vec<u32>, AllocError>
-    requires { CanNumberAll half.old roots.now expansions.now }
+    requires { CanNumberAll half.old expansions.now }
     ensures numbers { IfOk result (λ numbers.
         AreAllNumbered half.new expansions.now numbers.items) }
     ensures held { StillHas half.old half.new }
@@ -53,7 +134,7 @@ fn number_all(
 {
     let mut numbers = Vec::new(alloc);
     for place in 0..expansions.len() {
-        let more = number_finds(alloc, half, roots, &expansions[place].finds)?;
+        let more = number_finds(alloc, half, &expansions[place].finds)?;
         numbers.extend_from_slice(more.as_slice())?;
     }
     Ok(numbers)
@@ -66,11 +147,10 @@ pub(crate) fn number_both<R: Threads>(
     alloc: Global,
     left: &mut Half,
     right: &mut Half,
-    roots: &Roots,
     expansions: &[Expansion],
 ) -> Result<(Vec<u32>, Vec<u32>), AllocError>
-    requires left { CanNumberAll left.old roots.now expansions.now }
-    requires right { CanNumberAll right.old roots.now expansions.now }
+    requires left { CanNumberAll left.old expansions.now }
+    requires right { CanNumberAll right.old expansions.now }
     ensures lefts { IfOk result (λ numbers.
         AreAllNumbered left.new expansions.now numbers.0.items) }
     ensures rights { IfOk result (λ numbers.
@@ -81,17 +161,17 @@ pub(crate) fn number_both<R: Threads>(
     ensures right { IsHalf right.new }
 {
     let mut number_left = || -> Result<Vec<u32>, AllocError>
-        requires { CanNumberAll left.now roots.now expansions.now }
+        requires { CanNumberAll left.now expansions.now }
         ensures { IfOk result (λ numbers.
             AreAllNumbered left.exit.now expansions.entry.now numbers.items)
             × StillHas left.entry.now left.exit.now × IsHalf left.exit.now }
-    { number_all(alloc, left, roots, expansions) };
+    { number_all(alloc, left, expansions) };
     let mut number_right = || -> Result<Vec<u32>, AllocError>
-        requires { CanNumberAll right.now roots.now expansions.now }
+        requires { CanNumberAll right.now expansions.now }
         ensures { IfOk result (λ numbers.
             AreAllNumbered right.exit.now expansions.entry.now numbers.items)
             × StillHas right.entry.now right.exit.now × IsHalf right.exit.now }
-    { number_all(alloc, right, roots, expansions) };
+    { number_all(alloc, right, expansions) };
     let (lefts, rights) = join_mut(rt, &mut number_left, &mut number_right);
     Ok((lefts?, rights?))
 }

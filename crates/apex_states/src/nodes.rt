@@ -31,6 +31,13 @@ impl Nodes {
         })
     }
 
+    /// The number of pairs: the number of a tree that is no part is below it.
+    pub(crate) fn pair_count(&self) -> usize
+        ensures { result ≡ length self.now.pairs.rows }
+    {
+        self.pairs.len()
+    }
+
     /// The number of the tree of these words. Fails only for want of memory.
     #[cycle(numbers)]
     pub(crate) fn number(

@@ -1,5 +1,5 @@
 //! Rows of words, each once. The number of a row is its place.
-ghost use Rattle.std.specs.Prelude.{◌≡◌, ◌^◌, ◌<◌, ◌≤◌, length, slice_get, None, Some, IfOk, IfSome};
+ghost use Rattle.std.specs.Prelude.{◌≡◌, ◌^◌, ◌<◌, ◌≤◌, true, false, length, slice_get, None, Some, IfOk, IfSome};
 ghost use Rattle.apex_states.specs.Index.{IsKnown};
 ghost use Rattle.apex_states.specs.Lists.{IsFront};
 ghost use Rattle.apex_states.specs.Registers.{AreApart, IsEntered, IsGrown};
@@ -68,6 +68,19 @@ impl Register {
         self.rows.len()
     }
 
+    pub(crate) fn room(&self) -> usize
+        ensures { result ≡ self.now.room }
+    {
+        self.rows.room()
+    }
+
+    pub(crate) fn is_full(&self) -> bool
+        ensures full { result ≡ true → length self.now.rows ≡ self.now.room }
+        ensures room { result ≡ false → length self.now.rows < self.now.room }
+    {
+        self.rows.is_full()
+    }
+
     pub(crate) fn row(&self, number: usize) -> &[u64]
         requires { number < length self.now.rows }
         ensures row { slice_get self.now.rows number ≡ Some result.now }
@@ -97,7 +110,7 @@ impl Register {
 
     /// The same rows, with room for as many more and some. Fails only for want of memory, which is
     /// also the answer to more than 2^31 rows.
-    fn grown(&self, alloc: Global) -> Result<Register, AllocError>
+    pub(crate) fn grown(&self, alloc: Global) -> Result<Register, AllocError>
         ensures { IfOk result (IsGrown self.now) }
     {
         let count = self.rows.len();

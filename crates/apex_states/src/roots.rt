@@ -2,7 +2,7 @@
 ghost use Rattle.std.specs.Prelude.{◌≡◌, ℕ, ◌^◌, ◌<◌, ◌≤◌, [], ◌∷◌, length, slice_get, Some, IfOk};
 ghost use Rattle.apex_states.specs.Halves.{number_on};
 ghost use Rattle.apex_states.specs.Registers.{AreApart};
-ghost use Rattle.apex_states.specs.States.{no_states, IsKept};
+ghost use Rattle.apex_states.specs.States.{no_states, IsKept, IsSided};
 
 use crate::halves::Side;
 use crate::pairs::Pair;
@@ -54,6 +54,7 @@ impl Roots {
         ensures room { result ≤ self.now.room }
         ensures few { self.now.room < 2 ^ 32 }
         ensures apart { AreApart self.now.states }
+        ensures paired { length self.now.origins ≡ length self.now.states }
     {
         self.pairs.len()
     }
@@ -75,6 +76,32 @@ impl Roots {
             Side::Left => pair.left,
             Side::Right => pair.right,
         }
+    }
+
+    /// The number on this side of each pair, in order. Fails only for want of memory.
+    pub(crate) fn numbers(&self, alloc: Global, side: Side) -> Result<Vec<u32>, AllocError>
+        ensures { IfOk result (λ numbers.
+            IsSided self.now side numbers.items (length self.now.states)) }
+    {
+        let mut numbers = Vec::with_capacity(alloc, self.len())?;
+        for place in 0..self.len() {
+            numbers.push(self.number(place, side))?;
+        }
+        Ok(numbers)
+    }
+
+    /// Takes more room if there is none for one pair more. Fails only for want of memory.
+    pub(crate) fn make_room(&mut self, alloc: Global) -> Result<(), AllocError>
+        ensures room { IfOk result (λ _. length self.new.states < self.new.room) }
+        ensures same { self.new ≡ record self.old { room = self.new.room } }
+    {
+        if !self.pairs.is_full() {
+            return Ok(());
+        }
+        let pairs = self.pairs.grown(alloc)?;
+        self.origins.reserve(pairs.room() - self.origins.len())?;
+        self.pairs = pairs;
+        Ok(())
     }
 
     /// Enters the pair as the last one if it is not there yet: false if there is no room for it.

@@ -1,7 +1,9 @@
 //! The states that a search has reached, and where each of them comes from.
 ghost use Rattle.std.specs.Prelude.{◌≡◌, ◌^◌, ◌<◌, ◌≤◌, length, slice_get, Some, IfOk};
-ghost use Rattle.apex_states.specs.Expansions.{found_in, ComesFrom};
-ghost use Rattle.apex_states.specs.Finds.{AreKept};
+ghost use Rattle.apex_states.specs.Expansions.{found_in, IsWide};
+ghost use Rattle.apex_states.specs.Finds.{found_of, AreKept};
+ghost use Rattle.apex_states.specs.Halves.{width_on, IsHalf};
+ghost use Rattle.apex_states.specs.Keeping.{AreNumbered};
 ghost use Rattle.apex_states.specs.Lists.{AllAre};
 ghost use Rattle.apex_states.specs.Registers.{AreApart};
 ghost use Rattle.apex_states.specs.States.{no_states, IsKept};
@@ -63,6 +65,7 @@ impl States {
         ensures room { result ≤ self.now.room }
         ensures few { self.now.room < 2 ^ 32 }
         ensures apart { AreApart self.now.states }
+        ensures paired { length self.now.origins ≡ length self.now.states }
     {
         self.roots.len()
     }
@@ -104,6 +107,44 @@ impl States {
         Ok(())
     }
 
+    /// States that are kept next are nearly this one. Fails only for want of memory.
+    pub(crate) fn begin(&mut self, alloc: Global, state: &[u64]) -> Result<(), AllocError>
+        requires { length state.now ≡ self.old.width }
+        ensures { self.new ≡ self.old }
+    {
+        self.left.begin(alloc, state)?;
+        self.right.begin(alloc, state)?;
+        Ok(())
+    }
+
+    /// Takes more room if there is none for one state more. Fails only for want of memory.
+    pub(crate) fn make_room(&mut self, alloc: Global) -> Result<(), AllocError>
+        ensures room { IfOk result (λ _. length self.new.states < self.new.room) }
+        ensures same { self.new ≡ record self.old { room = self.new.room } }
+    {
+        self.roots.make_room(alloc)
+    }
+
+    /// The halves on this side, and the number of that of each state, in order. Fails only for want of
+    /// memory.
+    pub(crate) fn numbered(
+        &self,
+        alloc: Global,
+        side: Side,
+    ) -> Result<(&Half, Vec<u32>), AllocError>
+        ensures half { IfOk result (λ r. IsHalf r.0.now) }
+        ensures width { IfOk result (λ r. r.0.now.width ≡ width_on side self.now.width) }
+        ensures numbers { IfOk result (λ r. r.0.now.side ≡ side
+            × AreNumbered r.0.now (found_of self.now) r.1.items) }
+    {
+        let numbers = self.roots.numbers(alloc, side)?;
+        let half = match side {
+            Side::Left => &self.left,
+            Side::Right => &self.right,
+        };
+        Ok((half, numbers))
+    }
+
     /// The origin of each state.
     pub fn origins(&self) -> &[Origin]
         ensures { result.now ≡ self.now.origins }
@@ -132,12 +173,12 @@ impl States {
         expansions: &[Expansion],
     ) -> Result<bool, AllocError>
         requires paired { length self.old.origins ≡ length self.old.states }
-        requires each { AllAre (ComesFrom self.old) expansions.now }
+        requires wide { AllAre (IsWide self.old.width) expansions.now }
         ensures { IfOk result (AreKept (found_in self.old.width expansions.now) self.old self.new) }
     {
         let origins = gather_origins(alloc, expansions)?;
         let (left, right) = (&mut self.left, &mut self.right);
-        let (lefts, rights) = number_both(rt, alloc, left, right, &self.roots, expansions)?;
+        let (lefts, rights) = number_both(rt, alloc, left, right, expansions)?;
         let pairs = pair_all(alloc, lefts.as_slice(), rights.as_slice())?;
         Ok(enter_all(&mut self.roots, pairs.as_slice(), origins.as_slice()))
     }

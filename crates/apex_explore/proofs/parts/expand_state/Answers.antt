@@ -10,17 +10,17 @@ use Rattle.apex_explore.proofs.parts.expand_state.Goals.{in-Refused, in-Next+in_
 pub loop-choice-init : goal.loop-choice-init
 loop-choice-init g c =
     let step = step_within (g.S.System.choice_count c.args.system.now) (g.S.System.step c.args.system.now) in
-    record {
+    rw (c.begin.ensures) (record {
       finding = IsFinding-start step c.args.place c.args.state.now c.args.finds.now;
       workspace = c.enter.ensures.workspace;
       inside = c.enter.ensures.inside;
       filling = c.requires.finds;
-    }
+    })
 
 pub loop-choice-preserved : goal.loop-choice-preserved
 loop-choice-preserved g c =
     let so_far = c.loop-choice.invariant.finding in
-    let old = c.args.finds.now in
+    let old = c.begin.new.self in
     let finds = c.loop-choice.finds in
     let k = c.args.state.now in
     let choices = g.S.System.choice_count c.args.system.now in
@@ -52,4 +52,4 @@ pub returns-clause-outcome : goal.returns-clause-outcome
 returns-clause-outcome g c =
     let choices = g.S.System.choice_count c.args.system.now in
     let past : choices ≤ c.loop-choice.choice = omega (arith, c.choices-choice-end.ensures) in
-    each_made choices (g.S.System.step c.args.system.now) c.args.place c.args.state.now c.args.finds.now c.loop-choice.finds c.loop-choice.choice past c.loop-choice.invariant.finding
+    each_made choices (g.S.System.step c.args.system.now) c.args.place c.args.state.now c.begin.new.self c.loop-choice.finds c.loop-choice.choice past c.loop-choice.invariant.finding

@@ -3,14 +3,14 @@ use Rattle.std.proofs.Common.{take}
 use Rattle.apex_states.specs.Expansions.{found_in}
 use Rattle.apex_states.specs.declared.expansions.Expansion.{Expansion}
 use Rattle.apex_explore.specs.Systems.{step_within}
-use Rattle.apex_explore.proofs.Joining.{Fit-come}
+use Rattle.apex_explore.proofs.Joining.{Fit-wide}
 use Rattle.apex_explore.proofs.Parting.{Follows-over, Follows-past, Follows-struck}
 use Rattle.apex_explore.proofs.taking.take_all.Goals as goal
 
-pub keep_all-requires-clause-each : goal.keep_all-requires-clause-each
-keep_all-requires-clause-each g c =
+pub keep_all-requires-clause-wide : goal.keep_all-requires-clause-wide
+keep_all-requires-clause-wide g c =
     let step = step_within (g.S.System.choice_count c.args.system.now) (g.S.System.step c.args.system.now) in
-    Fit-come step (g.S.System.is_state c.args.system.now) c.args.states.now c.args.front.now c.args.limit c.args.expansions.now c.reach_of-reach.result.count c.requires.fit
+    Fit-wide step (g.S.System.is_state c.args.system.now) c.args.states.now c.args.front.now c.args.limit c.args.expansions.now c.reach_of-reach.result.count c.requires.fit
 
 pub returns-then-not-kept-clause-follows : goal.returns-then-not-kept-clause-follows
 returns-then-not-kept-clause-follows g c =

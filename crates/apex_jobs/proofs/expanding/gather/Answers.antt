@@ -28,3 +28,14 @@ pub returns-clause-desks : goal.returns-clause-desks
 returns-clause-desks g c = λ place desk is.
     let past : length c.loop-place.desks ≤ c.loop-place.place = omega arith in
     c.loop-place.invariant.done place desk (omega (arith, slice_get_within c.loop-place.desks place desk is, past)) is
+
+pub unreachable-requires : goal.unreachable-requires
+unreachable-requires g c =
+    let place = c.loop-place.place in
+    let was = c.index-desks-place.result in
+    let short : place < length c.loop-place.desks = omega arith in
+    let here : slice_get c.loop-place.desks place ≡ Some was = slice_get-get_or c.loop-place.desks place was short ∙ ap Some (sym c.index-desks-place.is) in
+    let before = c.loop-place.invariant.rest place was (omega arith) here in
+    let (copies, made) = c.requires place was before in
+    let taken : was.made ≡ c.take.result = rw c.index-desks-place.is (sym c.take.ensures.made) in
+    c.in_default.not-Some made.made (sym taken ∙ made.is)

@@ -6,15 +6,16 @@ use Rattle.std.proofs.lemmas.Option.{slice_get-get_or}
 use Rattle.apex_states.specs.declared.expansions.Expansion.{Expansion}
 use Rattle.apex_states.specs.Keeping.{AreAllNumbered}
 use Rattle.apex_states.proofs.Halving.{StillHas-trans}
-use Rattle.apex_states.proofs.Numbering.{AreAllNumbered-next, CanNumber-held}
+use Rattle.apex_states.proofs.Numbering.{AreAllNumbered-next}
 use Rattle.apex_states.proofs.keeping.number_all.Goals as goal
 
-pub number_finds-requires : goal.number_finds-requires
-number_finds-requires c =
+pub number_finds-requires-clause-width : goal.number_finds-requires-clause-width
+number_finds-requires-clause-width c =
     let expansion = get_or c.args.expansions.now c.loop-place.place c.index-expansions-place.result in
     let short : c.loop-place.place < length c.args.expansions.now = omega arith in
     let here = slice_get-get_or c.args.expansions.now c.loop-place.place c.index-expansions-place.result short in
-    CanNumber-held c.args.half.now c.loop-place.half c.args.roots.now expansion.finds c.loop-place.invariant.has c.loop-place.invariant.is_half (c.requires.each c.loop-place.place expansion here)
+    let has = c.loop-place.invariant.has in
+    rw (has.side, has.width) (c.requires.each c.loop-place.place expansion here)
 
 pub loop-place-preserved : goal.loop-place-preserved
 loop-place-preserved c =

@@ -1,13 +1,22 @@
--- Halves that are numbered, one after the other.
-use Rattle.apex_states.proofs.Numbering.{parent_number, IsNumbering-next}
+-- The numbers that the states have where they were found are translated.
+use Rattle.std.proofs.Common.{◌≡◌, ap, sym, ◌∙◌}
+use Rattle.std.proofs.lemmas.Result.{IfOk-weaker}
+use Rattle.apex_states.specs.Halves.{width_on}
+use Rattle.apex_states.specs.Keeping.{AreTranslated}
+use Rattle.apex_states.proofs.Numbering.{have_words, AreNumbered-translated}
 use Rattle.apex_states.proofs.keeping.number_finds.Goals as goal
 
-pub restore-requires-clause-known : goal.restore-requires-clause-known
-restore-requires-clause-known c =
-    let (pair, there, is) = c.number.ensures in
-    parent_number c.args.half.now c.loop-place.half c.args.roots.now.states c.origin.result.parent pair c.number.result c.side.result c.requires.valid c.loop-place.invariant.has there c.side.ensures is
+pub translate_all-requires-clause-numbers : goal.translate_all-requires-clause-numbers
+translate_all-requires-clause-numbers c = rw (c.as_slice.ensures.value) (have_words c.in_ok-known.known.now c.args.finds.now c.in_ok-known.numbers.items c.in_ok-known.ensures.numbers.1)
 
-pub loop-place-preserved : goal.loop-place-preserved
-loop-place-preserved c =
-    rw c.in_ok-push.ensures.items (IsNumbering-next c.args.finds.now c.args.half.now c.loop-place.half c.restore.new.self c.number-in-loop-place.new.self c.loop-place.numbers.items c.loop-place.place c.in_ok-number.field-0 c.state.result.now
-    c.state.ensures.state c.state.ensures.width c.restore.ensures.held c.number-in-loop-place.ensures.held c.number-in-loop-place.ensures.half c.in_ok-number.ensures.number c.loop-place.invariant)
+pub returns-clause-numbers : goal.returns-clause-numbers
+returns-clause-numbers c =
+    let known = c.in_ok-known.known.now in
+    let half = c.args.half.now in
+    let new = c.translate_all.new.half in
+    let numbers = c.in_ok-known.numbers.items in
+    let side : known.side ≡ half.side = c.in_ok-known.ensures.numbers.0 ∙ c.side.ensures in
+    let width : known.width ≡ half.width = c.in_ok-known.ensures.width ∙ (ap (λ s. width_on s c.args.finds.now.width) c.side.ensures ∙ sym c.requires.width) in
+    let translated = rw (c.as_slice.ensures.value) at c.translate_all.ensures.numbers in
+    IfOk-weaker c.translate_all.result (λ among. AreTranslated known new numbers among.items) _
+    (λ among are. AreNumbered-translated known half new c.args.finds.now numbers among.items side width c.translate_all.ensures.held c.in_ok-known.ensures.numbers.1 are) translated

@@ -6,20 +6,9 @@ use Rattle.apex_explore.specs.declared.fronts.Front.{Front}
 use Rattle.apex_explore.specs.declared.searches.Search.{Search}
 use Rattle.apex_explore.proofs.Levels.{turned_level}
 use Rattle.apex_states.specs.States.{Reached}
-use Rattle.apex_states.specs.Lists.{AllAre}
 use Rattle.apex_jobs.specs.Rounds.{AreExpansions}
-use Rattle.apex_states.specs.Expansions.{IsWide}
-use Rattle.apex_jobs.proofs.Rounds.{AreExpansions-later, AreExpansions-wide}
+use Rattle.apex_jobs.proofs.Rounds.{AreExpansions-later}
 use Rattle.apex_jobs.proofs.jobs.Jobs.go_on_at_once.Goals as goal
-
-pub give_back-requires-clause-wide : goal.give_back-requires-clause-wide
-give_back-requires-clause-wide g c =
-    let step = step_within (g.S.System.choice_count c.args.system.now) (g.S.System.step c.args.system.now) in
-    let so_far = c.loop-search.invariant in
-    let reached = c.loop-search.search.states in
-    let expansions = c.loop-search.expansions.items in
-    let Wide : ℕ → Type 0 = λ n. AllAre (IsWide n) expansions in
-    subst Wide so_far.over.width (AreExpansions-wide step (g.S.System.is_state c.args.system.now) reached c.loop-search.search.front.at c.loop-search.end expansions so_far.expansions)
 
 pub loop-search-preserved : goal.loop-search-preserved
 loop-search-preserved g c =
@@ -61,8 +50,8 @@ loop-search-preserved g c =
         states = taken.over.states;
       });
       searched = c.turn.ensures.searched;
-      desks = c.give_back.ensures;
-      some = omega (arith, so_far.some, c.lay_out_all-in-loop-search.auto.desks, c.take_and_expand.auto.desks, c.give_back.auto.desks);
+      desks = c.in_ok-stop.ensures.desks;
+      some = omega (arith, so_far.some, c.lay_out_all-in-loop-search.auto.desks, c.take_and_expand.auto.desks);
       expansions = subst From (sym at) (subst In (sym states) kept);
       further = omega (arith, at, so_far.further, so_far.before);
       before = omega (arith, at, c.states_at_once-in-loop-search.ensures.some);

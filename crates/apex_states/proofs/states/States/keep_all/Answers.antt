@@ -5,23 +5,23 @@ use Rattle.apex_states.proofs.Storing.{IsStored-held}
 use Rattle.apex_states.proofs.states.States.keep_all.Goals as goal
 
 pub number_both-requires-clause-left : goal.number_both-requires-clause-left
-number_both-requires-clause-left g c = can_number_left c.self.inside.roots c.self.inside.left c.self.inside.right c.args.expansions.now c.self.invariant (rw (← c.self.view_is) at c.requires.each)
+number_both-requires-clause-left g c = can_number_left c.self.inside.roots c.self.inside.left c.self.inside.right c.args.expansions.now c.self.invariant (rw (← c.self.view_is) at c.requires.wide)
 
 pub number_both-requires-clause-right : goal.number_both-requires-clause-right
-number_both-requires-clause-right g c = can_number_right c.self.inside.roots c.self.inside.left c.self.inside.right c.args.expansions.now c.self.invariant (rw (← c.self.view_is) at c.requires.each)
+number_both-requires-clause-right g c = can_number_right c.self.inside.roots c.self.inside.left c.self.inside.right c.args.expansions.now c.self.invariant (rw (← c.self.view_is) at c.requires.wide)
 
 pub pair_all-requires : goal.pair_all-requires
 pair_all-requires g c =
     let numbered = c.in_ok-lefts.ensures in
-    let come = rw (← c.self.view_is) at c.requires.each in
-    let counts = counts_found c.self.inside.roots c.self.inside.left c.self.inside.right c.number_both.new.left c.number_both.new.right c.args.expansions.now c.in_ok-lefts.lefts.items c.in_ok-lefts.rights.items come numbered.lefts numbered.rights in
+    let wide = rw (← c.self.view_is) at c.requires.wide in
+    let counts = counts_found c.self.inside.roots c.self.inside.left c.self.inside.right c.number_both.new.left c.number_both.new.right c.args.expansions.now c.in_ok-lefts.lefts.items c.in_ok-lefts.rights.items wide numbered.lefts numbered.rights in
     rw (c.as_slice.ensures.value, c.as_slice-2.ensures.value) (omega (arith, counts))
 
 pub enter_all-requires-clause-count : goal.enter_all-requires-clause-count
 enter_all-requires-clause-count g c =
     let numbered = c.in_ok-lefts.ensures in
-    let come = rw (← c.self.view_is) at c.requires.each in
-    let counts = counts_found c.self.inside.roots c.self.inside.left c.self.inside.right c.number_both.new.left c.number_both.new.right c.args.expansions.now c.in_ok-lefts.lefts.items c.in_ok-lefts.rights.items come numbered.lefts numbered.rights in
+    let wide = rw (← c.self.view_is) at c.requires.wide in
+    let counts = counts_found c.self.inside.roots c.self.inside.left c.self.inside.right c.number_both.new.left c.number_both.new.right c.args.expansions.now c.in_ok-lefts.lefts.items c.in_ok-lefts.rights.items wide numbered.lefts numbered.rights in
     let paired = rw (c.as_slice.ensures.value, c.as_slice-2.ensures.value) at c.in_ok-pairs.ensures in
     rw (c.as_slice-3.ensures.value, c.as_slice-4.ensures.value) (omega (arith, paired.count, counts, c.in_ok-origins.ensures.paired))
 
@@ -38,17 +38,17 @@ invariant_of-self-in_err-pairs g c =
 pub invariant_of-self-2 : goal.invariant_of-self-2
 invariant_of-self-2 g c =
     let numbered = c.in_ok-lefts.ensures in
-    let come = rw (← c.self.view_is) at c.requires.each in
+    let wide = rw (← c.self.view_is) at c.requires.wide in
     let paired = rw (c.as_slice.ensures.value, c.as_slice-2.ensures.value) at c.in_ok-pairs.ensures in
     let kept = rw (c.as_slice-3.ensures.value, c.as_slice-4.ensures.value, c.in_ok-origins.ensures.origins) at c.enter_all.ensures in
     (kept_all c.self.inside.roots c.enter_all.new.roots c.self.inside.left c.self.inside.right c.number_both.new.left c.number_both.new.right c.args.expansions.now c.in_ok-lefts.lefts.items c.in_ok-lefts.rights.items c.in_ok-pairs.pairs.items c.enter_all.result
-    c.self.invariant numbered.held_left numbered.held_right numbered.left numbered.right come numbered.lefts numbered.rights paired kept).0
+    c.self.invariant numbered.held_left numbered.held_right numbered.left numbered.right wide numbered.lefts numbered.rights paired kept).0
 
 pub returns : goal.returns
 returns g c =
     let numbered = c.in_ok-lefts.ensures in
-    let come = rw (← c.self.view_is) at c.requires.each in
+    let wide = rw (← c.self.view_is) at c.requires.wide in
     let paired = rw (c.as_slice.ensures.value, c.as_slice-2.ensures.value) at c.in_ok-pairs.ensures in
     let kept = rw (c.as_slice-3.ensures.value, c.as_slice-4.ensures.value, c.in_ok-origins.ensures.origins) at c.enter_all.ensures in
     rw (← c.self.view_is) (kept_all c.self.inside.roots c.enter_all.new.roots c.self.inside.left c.self.inside.right c.number_both.new.left c.number_both.new.right c.args.expansions.now c.in_ok-lefts.lefts.items c.in_ok-lefts.rights.items c.in_ok-pairs.pairs.items c.enter_all.result
-    c.self.invariant numbered.held_left numbered.held_right numbered.left numbered.right come numbered.lefts numbered.rights paired kept).1
+    c.self.invariant numbered.held_left numbered.held_right numbered.left numbered.right wide numbered.lefts numbered.rights paired kept).1
