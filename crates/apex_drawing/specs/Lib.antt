@@ -1,3 +1,4 @@
+pub mod Courses
 pub mod Styles
 pub mod Pictures
 pub mod Drawing

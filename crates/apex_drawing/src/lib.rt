@@ -1,6 +1,7 @@
 //! The drawing of a partition's history while it runs, as SVG or as a trace.
 #![tactic(auto)]
 
+mod courses;
 mod drawing;
 mod styles;
 

@@ -4,7 +4,8 @@ ghost use Rattle.apex_types.specs.declared.limits.TheConstants.{MOST_CORES, MOST
 ghost use Rattle.apex_calls.specs.Lines.{IsPrintable};
 ghost use Rattle.apex_machine.specs.processes.Roster.{record_at};
 ghost use Rattle.apex_moments.specs.Counts.{HasCounts, counts_of};
-ghost use Rattle.apex_moments.specs.Moments.{moment_in, moment_of, running_in};
+ghost use Rattle.apex_dispatch.specs.Situations.{situation_in};
+ghost use Rattle.apex_moments.specs.Moments.{moment_at, moment_of, running_in};
 ghost use Rattle.apex_traces.specs.Trace.{column_text};
 ghost use Rattle.apex_traces.specs.Tracks.{bare, cell_on, track_of};
 ghost use Rattle.apex_traces.specs.declared.beings.Being.TheVariants.{Dormant, Ready, Running};
@@ -16,7 +17,7 @@ use crate::pieces::Piece;
 use crate::stamps::Timed;
 use crate::trace::{add_call, add_notices, add_processes, add_runs};
 use apex_configs::Table;
-use apex_dispatch::{Kernel, Objects};
+use apex_dispatch::{Objects, Situation};
 use apex_machine::Record;
 use apex_moments::{
     CORES, Counts, counts_of, is_process, put_bytes, running_at, running_of, state_of,
@@ -178,12 +179,13 @@ fn tracks_of<S: Store>(store: &S, counts: Counts) -> Tracks
     }
 }
 
-/// The tracks of a kernel.
-pub fn tracks_in<S: Store>(kernel: &Kernel<S>) -> Tracks
-    ensures { result ≡ bare (moment_in kernel.now.table kernel.now.machine) }
+/// The tracks of a situation of this table.
+pub fn tracks_in<S: Store>(table: &Table, situation: &Situation<S>) -> Tracks
+    requires { length situation.now.roster.records ≤ MOST_PROCESSES }
+    ensures { result ≡ bare (moment_at table.now (situation_in situation.now)) }
 {
-    kernel.holds();
-    tracks_of(kernel.store(), counts_of(kernel))
+    let store = situation.store();
+    tracks_of(store, counts_of(table, situation.objects(), store))
 }
 
 /// What the track at a place shows; DORMANT if there is no such track.
