@@ -69,6 +69,15 @@ word_first byte rest gap bracket = go (byte == 41) refl (cut_at rest)
         rw (gap, bracket, t, first, behind, same) refl
     go false t (more, first, behind) = rw (gap, bracket, t, first, behind) refl
 
+-- a text without the gap that it begins with has the same words
+pub gap_left : (byte : ℕ) (rest : List ℕ) → is_gap byte ≡ true → filled (words rest) ≡ filled (words (byte ∷ rest))
+gap_left byte rest gap = rw gap refl
+
+-- the same words behind a word
+pub behind_word : (word : List ℕ) (one other : List (List ℕ)) → filled one ≡ filled other → filled (word ∷ one) ≡ filled (word ∷ other)
+behind_word [] one other same = same
+behind_word (byte ∷ rest) one other same = ap (λ l. (byte ∷ rest) ∷ l) same
+
 -- the first word of a text that begins with a space or a line feed
 pub gap_first : (text after : List ℕ) → 0 < length text → after ≡ take (length text - 1) (drop 1 text) → is_gap (slice_index text 0) ≡ true
     → filled (words text) ≡ filled (take 0 text ∷ words after)

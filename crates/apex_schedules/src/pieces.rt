@@ -62,7 +62,19 @@ fn is_gap(byte: u8) -> bool
     byte == b' ' || byte == b'\n'
 }
 
-/// The first word of a text, which may be empty, and the text that the words behind it have.
+/// The text behind the gap that it begins with, or the text itself if it begins with none.
+#[tactic(auto, using(crate::proofs::Words::gap_left))]
+fn behind_gap(text: &[u8]) -> &[u8]
+    ensures words { filled (words result.now) ≡ filled (words text.now) }
+    ensures fits { length result.now ≤ length text.now }
+{
+    match text {
+        [b' ' | b'\n', after @ ..] => after,
+        _ => text,
+    }
+}
+
+/// The first word of a text, which may be empty, and a text that has the words behind it.
 pub(crate) fn cut_word(text: &[u8]) -> (&[u8], &[u8])
     requires { 0 < length text.now }
     ensures words { filled (words text.now) ≡ filled (result.0.now ∷ words result.1.now) }
@@ -77,5 +89,5 @@ pub(crate) fn cut_word(text: &[u8]) -> (&[u8], &[u8])
         return (&text[..1], after);
     }
     let end = length_of_word(after) + 1;
-    (&text[..end], &text[end..])
+    (&text[..end], behind_gap(&text[end..]))
 }

@@ -52,10 +52,16 @@ fn read_turns(word: &[u8]) -> Option<Item>
     Some(Item::Turns { core, times })
 }
 
+// Most items are one turn.
+#[tactic(auto, using(crate::proofs::Parts::turn_alone))]
 pub(crate) fn read_item(word: &[u8]) -> Option<Item>
     ensures { result ≡ item_of word.now }
 {
     match word {
+        [digit @ b'0'..=b'7'] => {
+            let core = CoreId::new(*digit - b'0');
+            Some(Item::Turns { core, times: 1 })
+        }
         [b't', ticks @ ..] => read_ticks(ticks).map(Item::Tick),
         _ => read_turns(word),
     }
