@@ -9,24 +9,12 @@ use Rattle.apex_jobs.specs.Rounds.{start_at, AreLaidOut, IsLaid, LaysOut}
 use Rattle.apex_states.specs.Batches.{IsCopied}
 use Rattle.apex_states.specs.Lists.{AllAre}
 use Rattle.apex_states.specs.States.{Reached}
+use Rattle.apex_states.proofs.Fronts.{set_back}
 use Rattle.apex_states.proofs.Probing.{last_or_before}
-
--- what is at a place after one member was set
-pub get_set : {X : Type 0} (xs : List X) (place : ℕ) (y : X) (at : ℕ) (x : X) → slice_get (slice_set xs place y) at ≡ Some x
-    → ((at ≡ place) × (y ≡ x)) ⊎ ((at ≢ place) × (slice_get xs at ≡ Some x))
-get_set [] place y at x is = cc
-get_set (z ∷ xs) zero y zero x is = inl (refl, same_Some y x is)
-get_set (z ∷ xs) zero y (suc at) x is = inr (λ e. absurd (omega (arith, e)), is)
-get_set (z ∷ xs) (suc place) y zero x is = inr (λ e. absurd (omega (arith, e)), is)
-get_set (z ∷ xs) (suc place) y (suc at) x is =
-    elim (get_set xs place y at x is) [
-      | inl here ↦ inl (ap suc here.0, here.1)
-      | inr other ↦ inr (λ e. other.0 (omega (arith, e)), other.1)
-    ]
 
 pub all_set : {X : Type 0} (P : X → Type 0) (xs : List X) (place : ℕ) (y : X) → AllAre P xs → P y → AllAre P (slice_set xs place y)
 all_set P xs place y all holds at x is =
-    elim (get_set xs place y at x is) [
+    elim (set_back xs place y at x is) [
       | inl here ↦ subst P here.1 holds
       | inr other ↦ all at x other.1
     ]

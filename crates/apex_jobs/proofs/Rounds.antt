@@ -16,7 +16,7 @@ use Rattle.apex_states.specs.Batches.{Copies}
 use Rattle.apex_states.specs.Lists.{AllAre, IsFront}
 use Rattle.apex_states.specs.States.{Reached}
 use Rattle.apex_states.proofs.Probing.{last_or_before}
-use Rattle.apex_jobs.proofs.Layouts.{get_set}
+use Rattle.apex_states.proofs.Fronts.{set_back}
 
 -- expansions of states that stay there
 pub AreExpansions-later : (step : List ℕ → ℕ → Step (List ℕ)) (is_state : List ℕ → Type 0) (old new : Reached) (from limit : ℕ) (expansions : List Expansion)
@@ -74,11 +74,11 @@ module _ {W : Type 0} (word_count : ℕ) (is_workspace : W → Type 0) (old : Li
           let at_old : slice_get old at ≡ Some was = rw (← e) (so_far.rest place was (omega arith) here) in
           (was, at_old, made ∙ ap (λ x. Some (Ok x)) same)
     ];
-    rest = λ at other above there. elim (get_set desks place desk at other there) [
+    rest = λ at other above there. elim (set_back desks place desk at other there) [
       | inl (same, _) ↦ absurd (omega (arith, same, above))
       | inr (_, before) ↦ so_far.rest at other (omega (arith, above)) before
     ];
-    done = λ at other below there. elim (get_set desks place desk at other there) [
+    done = λ at other below there. elim (set_back desks place desk at other there) [
       | inl (_, same) ↦ subst (IsDesk word_count is_workspace) same is
       | inr (apart, before) ↦ so_far.done at other (omega (arith, apart, below)) before
     ];

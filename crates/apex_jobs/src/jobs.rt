@@ -1,11 +1,12 @@
 //! A search by several threads.
-ghost use Rattle.std.specs.Prelude.{◌≡◌, ◌+◌, ◌<◌, ◌≤◌, length, IfOk, IfSome, None};
+ghost use Rattle.std.specs.Prelude.{◌≡◌, ◌+◌, ◌*◌, ◌<◌, ◌≤◌, length, IfOk, IfSome, None};
 ghost use Rattle.apex_explore.specs.Answers.{Says};
 ghost use Rattle.apex_explore.specs.Desks.{IsDesk};
 ghost use Rattle.apex_explore.specs.Levels.{Stops};
 ghost use Rattle.apex_explore.specs.Searches.{AreLeft, IsOver, IsSearched, IsSearchedBefore, IsUnderWay, room_of};
 ghost use Rattle.apex_explore.specs.Systems.{step_within};
 ghost use Rattle.apex_states.specs.Lists.{AllAre};
+ghost use Rattle.apex_jobs.specs.declared.jobs.TheConstants.{DESKS_A_JOB};
 
 use crate::expanding::expand_all;
 use crate::laying::lay_out_all;
@@ -115,9 +116,9 @@ impl<'r, R: Threads + Sync> Jobs<'r, R> {
 
     /// The number of desks of a search.
     fn desk_count(&self) -> usize
-        ensures { self.now.jobs ≤ result }
+        ensures { result ≡ self.now.jobs * DESKS_A_JOB }
     {
-        (self.jobs as usize).saturating_mul(DESKS_A_JOB)
+        self.jobs as usize * DESKS_A_JOB
     }
 
     /// The desks of the jobs. Fails only for want of memory.
@@ -126,7 +127,8 @@ impl<'r, R: Threads + Sync> Jobs<'r, R> {
         alloc: Global,
         system: &S,
     ) -> Result<Vec<Desk<W>>, AllocError>
-        ensures count { IfOk result (λ desks. self.now.jobs ≤ length desks.items) }
+        ensures count { IfOk result (λ desks.
+            length desks.items ≡ self.now.jobs * DESKS_A_JOB) }
         ensures desks { IfOk result (λ desks.
             AllAre (IsDesk (S.word_count system.now) (S.is_workspace system.now)) desks.items) }
     {

@@ -1,7 +1,7 @@
 -- Lists that go on others.
-use Rattle.std.proofs.Common.{◌≡◌, ℕ, zero, suc, ◌+◌, ◌<◌, ◌⊎◌, List, [], ◌∷◌, ◌++◌, length, length-append, Some, sym, ap, ◌∙◌, arith, get_or, inl, inr}
-use Rattle.std.proofs.lemmas.Option.{slice_get-get_or}
-use Rattle.std.specs.List.{slice_get}
+use Rattle.std.proofs.Common.{◌≡◌, ◌≢◌, ℕ, zero, suc, ◌+◌, ◌<◌, ◌⊎◌, List, [], ◌∷◌, ◌++◌, length, length-append, Some, refl, sym, ap, ◌∙◌, arith, get_or, inl, inr}
+use Rattle.std.proofs.lemmas.Option.{same_Some, slice_get-get_or}
+use Rattle.std.specs.List.{slice_get, slice_set}
 use Rattle.apex_states.specs.Lists.{IsFront}
 
 pub IsFront-refl : {X : Type 0} (xs : List X) → IsFront xs xs
@@ -24,6 +24,19 @@ at_old_place old new place x front within is =
     let was = slice_get-get_or old place x within in
     let same : Some (get_or old place x) ≡ Some x = sym (front.same place (get_or old place x) was) ∙ is in
     was ∙ same
+
+-- what is at a place after one member was set
+pub set_back : {X : Type 0} (xs : List X) (place : ℕ) (y : X) (at : ℕ) (x : X) → slice_get (slice_set xs place y) at ≡ Some x
+    → ((at ≡ place) × (y ≡ x)) ⊎ ((at ≢ place) × (slice_get xs at ≡ Some x))
+set_back [] place y at x is = cc
+set_back (z ∷ xs) zero y zero x is = inl (refl, same_Some y x is)
+set_back (z ∷ xs) zero y (suc at) x is = inr (λ e. absurd (omega (arith, e)), is)
+set_back (z ∷ xs) (suc place) y zero x is = inr (λ e. absurd (omega (arith, e)), is)
+set_back (z ∷ xs) (suc place) y (suc at) x is =
+    elim (set_back xs place y at x is) [
+      | inl here ↦ inl (ap suc here.0, here.1)
+      | inr other ↦ inr (λ e. other.0 (omega (arith, e)), other.1)
+    ]
 
 -- Lists that are put behind others.
 

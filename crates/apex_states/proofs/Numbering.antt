@@ -14,7 +14,7 @@ use Rattle.apex_states.specs.Halves.{number_on, part_of, IsHalf, IsNumber, Still
 use Rattle.apex_states.specs.Keeping.{AreAllNumbered, AreFound, AreNumbered, ArePaired, AreTranslated}
 use Rattle.apex_states.specs.Lists.{AllAre}
 use Rattle.apex_states.specs.States.{seen, state_of, IsRoot, IsSided, IsStored, Reached}
-use Rattle.apex_states.proofs.Fronts.{at_old_place, get_append, IsFront-append, IsFront-push}
+use Rattle.apex_states.proofs.Fronts.{at_old_place, get_append, set_back, IsFront-append, IsFront-push}
 use Rattle.apex_states.proofs.Gathering.{get_last}
 use Rattle.apex_states.proofs.Halving.{parts_whole, take_front, drop_front, words_at-is, IsNumber-held, StillHas-refl, StillHas-trans}
 use Rattle.apex_states.proofs.Probing.{last_or_before}
@@ -102,27 +102,13 @@ AreFound-held known half new found has are number translated k there is = IsNumb
 some_none : (x : ℕ) → Some x ≡ None → ⊥
 some_none x same = cc
 
-same_some : (x y : ℕ) → Some x ≡ Some y → x ≡ y
-same_some x y same = cc
-
--- what is read after a slot was set is what was set, or was there before
-set_back : (found : List (Option ℕ)) (slot other : ℕ) (x y : Option ℕ) → slice_get (slice_set found slot x) other ≡ Some y → ((other ≡ slot) × (x ≡ y)) ⊎ (slice_get found other ≡ Some y)
-set_back [] slot other x y is = inr is
-set_back (z ∷ found) zero zero x y is = inl (refl, same_Some x y is)
-set_back (z ∷ found) zero (suc other) x y is = inr is
-set_back (z ∷ found) (suc slot) zero x y is = inr is
-set_back (z ∷ found) (suc slot) (suc other) x y is = elim (set_back found slot other x y is) [
-  | inl (e, same) ↦ inl (ap suc e, same)
-  | inr before ↦ inr before
-]
-
 -- one more is found
 pub AreFound-set : (known half new : Half) (found : List (Option ℕ)) (number translated : ℕ) → StillHas half new
     → ((k : List ℕ) → IsNumber known number k → IsNumber new translated k)
     → AreFound known half found → AreFound known new (slice_set found number (Some translated))
-AreFound-set known half new found number translated has right are other among k there is = elim (set_back found number other (Some translated) (Some among) there) [
-  | inl (e, same) ↦ subst (λ n. IsNumber new n k) (same_some translated among same) (right k (subst (λ n. IsNumber known n k) e is))
-  | inr before ↦ IsNumber-held half new among k has (are other among k before is)
+AreFound-set known half new found number translated has right are other among k there is = elim (set_back found number (Some translated) other (Some among) there) [
+  | inl (e, same) ↦ subst (λ n. IsNumber new n k) (same_Some translated among same) (right k (subst (λ n. IsNumber known n k) e is))
+  | inr (_, before) ↦ IsNumber-held half new among k has (are other among k before is)
 ]
 
 -- those before `place` are translated
