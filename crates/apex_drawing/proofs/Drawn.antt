@@ -52,13 +52,6 @@ drawn_more a b style table old new held after passes grows =
     (subst (λ text. Passes a b text (held ++ flat_map (column_text style table) columns)) (sym (text_more style table old new columns more))
     (passes_with a b (so_far style table old) held (flat_map (column_text style table) columns) passes))
 
--- the text that is held is handed on in part
-pub passes_on : (a b c : Option (List ℕ)) (text held kept : List ℕ) → Passes a b text held → Passes b c held kept → Passes a c text kept
-passes_on a b c text held kept p q =
-    let (front, whole, first) = p in
-    let (done, split, second) = q in
-    (front ++ done, whole ∙ ap (λ l. front ++ l) split ∙ sym (append_assoc front done kept), Appends-trans a b c front done first second)
-
 -- the text that is held is still to be written
 pub unwritten : (a b : Option (List ℕ)) (text held : List ℕ) → Passes a b text held → AppendsBeginning a b text
 unwritten a b text held p =

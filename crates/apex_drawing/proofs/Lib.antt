@@ -1,2 +1,3 @@
+pub mod Coursed
 pub mod Drawn
 pub mod Followed

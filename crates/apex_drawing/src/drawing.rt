@@ -1,38 +1,42 @@
 //! The drawing of a picture, column by column, while the partition runs.
-ghost use Rattle.std.specs.Prelude.{◌≡◌, ◌++◌, ◌↔◌, ◌+◌, ◌<◌, ◌≤◌, [], All, IsOk, length, OnErr, OnOk};
+ghost use Rattle.std.specs.Prelude.{◌≡◌, ◌++◌, ◌+◌, ◌<◌, ◌≤◌, ℕ, [], All, length, OnErr, OnOk};
 ghost use Rattle.std.specs.Io.KnownBytes.{Appends};
 ghost use Rattle.apex_calls.specs.Lines.{IsPrintable};
-ghost use Rattle.apex_machine.specs.Machine.{accept, opening, run};
+ghost use Rattle.apex_laws.specs.GoesOn.{CanGoOn};
+ghost use Rattle.apex_machine.specs.Machine.{Machine, accept, opening, run, situation_of};
 ghost use Rattle.apex_machine.specs.Events.{IsWithin};
 ghost use Rattle.apex_types.specs.Limits.{latest};
-ghost use Rattle.apex_dispatch.specs.Kernel.{kernel_in};
+ghost use Rattle.apex_types.specs.declared.limits.TheConstants.{MOST_ENTRIES, MOST_PROCESSES};
+ghost use Rattle.apex_dispatch.specs.Situations.{situation_in};
 ghost use Rattle.apex_history.specs.Counted.{inner_of, failures_of, AppendsBeginning};
 ghost use Rattle.apex_history.specs.Page.{Passes};
-ghost use Rattle.apex_moments.specs.Instants.{instant_after};
-ghost use Rattle.apex_moments.specs.Moments.{Shown, moment_in};
+ghost use Rattle.apex_moments.specs.Moments.{Shown, moment_at, moment_in};
+ghost use Rattle.apex_drawing.specs.Courses.{IsAt};
 ghost use Rattle.apex_drawing.specs.declared.drawing.DrawFault.TheVariants.{Memory};
 ghost use Rattle.apex_drawing.specs.Drawing.{CountsDrawing, Grows};
+ghost use Rattle.apex_drawing.specs.Pages.{pending};
 ghost use Rattle.apex_drawing.specs.Pictures.{column_text, foot_text, head_text, picture_text, span_of};
 ghost use Rattle.apex_pictures.specs.Svg as svg_text;
 ghost use Rattle.apex_drawing.specs.Styles.{Fits, Follows, HasTracks};
 ghost use Rattle.apex_traces.specs.Tracks.{bare};
+ghost use Rattle.apex_traces.specs.declared.pieces.TheConstants.{GATHERED};
+ghost use Rattle.arrayvec.specs.ArrayVec.{array_vec_len};
 
+use crate::courses::{Course, make, maker};
+use crate::pages::Page;
 use crate::styles::Style;
 use apex_configs::Table;
-use apex_dispatch::Kernel;
+use apex_dispatch::Situation;
 use apex_history::{Counted, Sink};
 use apex_moments::{Instant, moment_in};
 use apex_pictures::Frame;
 use apex_scales::TickLength;
 use apex_store::Store;
 use apex_traces::{Span, Tracks, tracks_in};
-use apex_types::{Event, LentEntry};
+use apex_types::{Event, LentEntry, Notices};
 use std::alloc::{AllocError, Global};
 use std::io::Write;
 use thiserror::Error;
-
-/// The least number of bytes that are gathered before they are written.
-const GATHERED: usize = 131_072;
 
 /// The reason why a picture was not drawn to its end.
 #[derive(Clone, Copy, Debug, PartialEq, Eq, Error)]
@@ -67,28 +71,41 @@ fn put_head(
     }
 }
 
-/// Puts what comes after the columns of the history so far, of which these are the last instant and
-/// the last tracks.
+/// Puts what comes after the columns of a run so far.
 fn put_foot<S: Store>(
     text: &mut Vec<u8>,
     style: &Style,
-    kernel: &Kernel<S>,
-    instant: Instant,
-    last: &Tracks,
+    table: &Table,
+    course: &Course<S>,
 ) -> Result<(), AllocError>
-    requires shown { Follows style.now last.now (moment_in kernel.now.table kernel.now.machine) }
-    requires instant { instant ≡ instant_after kernel.now.machine.history }
-    ensures { OnOk result (text.new.items ≡ text.old.items
-        ++ foot_text style.now kernel.now.table kernel.now.machine) }
+    requires { (machine : Machine) × IsAt style.now table.now machine course.now }
+    ensures { (machine : Machine) → IsAt style.now table.now machine course.now
+        → OnOk result (text.new.items ≡ text.old.items ++ foot_text style.now table.now machine) }
 {
     match style {
-        Style::Svg(frame) => apex_pictures::put_foot(text, kernel.table(), frame),
+        Style::Svg(frame) => apex_pictures::put_foot(text, table, frame),
         Style::Trace(tick) => {
-            kernel.holds();
-            let end = instant.next(kernel.now());
-            apex_traces::put_foot(text, kernel.table(), end.time(*tick), last)
+            table.lawful();
+            let end = course.instant.next(course.situation.now());
+            apex_traces::put_foot(text, table, end.time(*tick), &course.shown)
         }
     }
+}
+
+/// Adds what comes after the columns of a run so far.
+fn add_foot<S: Store>(
+    page: &mut Page,
+    style: &Style,
+    table: &Table,
+    course: &Course<S>,
+) -> Result<(), AllocError>
+    requires { (machine : Machine) × IsAt style.now table.now machine course.now }
+    ensures { (machine : Machine) → IsAt style.now table.now machine course.now
+        → OnOk result (pending page.new
+        ≡ pending page.old ++ foot_text style.now table.now machine) }
+{
+    page.settle()?;
+    put_foot(&mut page.text, style, table, course)
 }
 
 /// The times of two instants, for ticks of this length.
@@ -108,157 +125,159 @@ fn span_of(tick: TickLength, begun: Instant, ended: Instant) -> Span
 fn put_svg_column<S: Store>(
     text: &mut Vec<u8>,
     frame: &Frame,
-    kernel: &Kernel<S>,
+    table: &Table,
+    situation: &Situation<S>,
     entry: &LentEntry<'_>,
 ) -> Result<(), AllocError>
-    requires { IsPrintable kernel.now.table entry.now }
-    ensures { OnOk result (text.new.items ≡ text.old.items ++ svg_text.column_text kernel.now.table
-        frame.now entry.entry.now (moment_in kernel.now.table kernel.now.machine)) }
+    requires printable { IsPrintable table.now entry.now }
+    requires few { length situation.now.roster.records ≤ MOST_PROCESSES }
+    ensures { OnOk result (text.new.items ≡ text.old.items ++ svg_text.column_text table.now
+        frame.now entry.entry.now (moment_at table.now (situation_in situation.now))) }
 {
-    let moment = moment_in(kernel);
-    apex_pictures::put_column(text, kernel.table(), frame, entry, &moment)
+    let moment = moment_in(table, situation);
+    apex_pictures::put_column(text, table, frame, entry, &moment)
 }
 
-/// Puts the column of the latest entry, which has this instant, as `begun` is that before it; if a
+/// Adds the column of the latest entry, which has this instant, as `begun` is that before it; if a
 /// trace is drawn, `shown` are the tracks before it, and then those after it.
-fn put_column<S: Store>(
-    text: &mut Vec<u8>,
+fn add_column<S: Store>(
+    page: &mut Page,
     style: &Style,
-    kernel: &Kernel<S>,
+    table: &Table,
+    situation: &Situation<S>,
     begun: Instant,
     instant: Instant,
     entry: &LentEntry<'_>,
     shown: &mut Tracks,
 ) -> Result<(), AllocError>
-    requires printable { IsPrintable kernel.now.table entry.now }
-    requires many { HasTracks style.now shown.old (length kernel.now.machine.roster.records) }
-    requires fits { Fits style.now shown.old kernel.now.table }
+    requires printable { IsPrintable table.now entry.now }
+    requires records { length situation.now.roster.records ≡ length table.now.processes }
+    requires few { length table.now.processes ≤ MOST_PROCESSES }
+    requires many { HasTracks style.now shown.old (length table.now.processes) }
+    requires fits { Fits style.now shown.old table.now }
     requires times { (begun.now ≤ latest) × (instant.now ≤ latest) }
+    requires room { array_vec_len page.old.columns ≤ GATHERED }
     ensures drawn { (before : Shown) → Follows style.now shown.old before
-        → OnOk result (text.new.items ≡ text.old.items ++ column_text style.now kernel.now.table
+        → OnOk result (pending page.new ≡ pending page.old ++ column_text style.now table.now
         (record {
           begun = begun;
           instant = instant;
           before = before;
           entry = entry.entry.now;
-          after = moment_in kernel.now.table kernel.now.machine;
+          after = moment_at table.now (situation_in situation.now);
         })) }
     ensures shown { OnOk result (Follows style.now shown.new
-        (moment_in kernel.now.table kernel.now.machine)) }
+        (moment_at table.now (situation_in situation.now))) }
 {
     match style {
-        Style::Svg(frame) => put_svg_column(text, frame, kernel, entry),
+        Style::Svg(frame) => {
+            page.settle()?;
+            put_svg_column(&mut page.text, frame, table, situation, entry)
+        }
         Style::Trace(tick) => {
             let span = span_of(*tick, begun, instant);
-            apex_traces::put_column(text, kernel, span, entry, shown)
+            apex_traces::add_column(&mut page.columns, table, situation, span, entry, shown);
+            Ok(())
         }
     }
 }
 
-/// Makes the event, and puts its column. `instant` is that before it, and then that after it; if a
-/// trace is drawn, `shown` are the tracks before it, and then those after it.
+/// Makes the event, if the history has room for its entry, and adds its column.
 fn draw_event<S: Store>(
-    text: &mut Vec<u8>,
+    page: &mut Page,
     style: &Style,
-    kernel: &mut Kernel<S>,
+    table: &Table,
+    course: &mut Course<S>,
     event: Event,
-    instant: &mut Instant,
-    shown: &mut Tracks,
 ) -> Result<(), AllocError>
-    requires within { IsWithin kernel.old.table.cores event }
-    requires instant { instant.old ≡ instant_after kernel.old.machine.history }
-    requires shown { Follows style.now shown.old (moment_in kernel.old.table kernel.old.machine) }
-    ensures done { kernel.new ≡ kernel_in kernel.old.table
-        (accept kernel.old.table kernel.old.machine event) kernel.new.store }
-    ensures instant { OnOk result (instant.new ≡ instant_after kernel.new.machine.history) }
-    ensures shown { OnOk result (Follows style.now shown.new
-        (moment_in kernel.old.table kernel.new.machine)) }
-    ensures drawn { OnOk result (Grows style.now kernel.old.table kernel.old.machine
-        kernel.new.machine text.old.items text.new.items) }
+    requires within { IsWithin table.now.cores event }
+    requires at { (machine : Machine) × IsAt style.now table.now machine course.old }
+    requires room { array_vec_len page.old.columns ≤ GATHERED }
+    ensures at { (machine : Machine) → IsAt style.now table.now machine course.old
+        → OnOk result (IsAt style.now table.now (accept table.now machine event) course.new) }
+    ensures drawn { (machine : Machine) → IsAt style.now table.now machine course.old
+        → OnOk result (Grows style.now table.now machine (accept table.now machine event)
+        (pending page.old) (pending page.new)) }
 {
-    kernel.holds();
-    let Ok(()) = kernel.accept(event) else {
-        return Ok(());
-    };
-    kernel.holds();
-    let latest = kernel.entries().latest();
-    let Some(entry) = &latest else {
-        return Ok(());
-    };
-    let begun = *instant;
-    *instant = begun.next(kernel.now());
-    put_column(text, style, kernel, begun, *instant, entry, shown)
-}
-
-/// Writes the text out, and forgets it.
-fn hand_on<W: Sink>(text: &mut Vec<u8>, writer: &mut Counted<W>) -> Result<(), DrawFault>
-    ensures ok { OnOk result (Appends (W.contents (inner_of writer.old))
-        (W.contents (inner_of writer.new)) text.old.items) }
-    ensures empty { text.new.items ≡ [] }
-    ensures err { OnErr result (AppendsBeginning (W.contents (inner_of writer.old))
-        (W.contents (inner_of writer.new)) text.old.items) }
-    ensures counted { CountsDrawing result (failures_of writer.old) (failures_of writer.new) }
-{
-    let written = writer.write_all(text.as_slice());
-    text.clear();
-    match written {
-        Ok(()) => Ok(()),
-        Err(_) => Err(DrawFault::Write),
-    }
-}
-
-/// Writes the text out once it is long.
-fn make_room<W: Sink>(text: &mut Vec<u8>, writer: &mut Counted<W>) -> Result<(), DrawFault>
-    ensures ok { OnOk result (Passes (W.contents (inner_of writer.old))
-        (W.contents (inner_of writer.new)) text.old.items text.new.items) }
-    ensures err { OnErr result (AppendsBeginning (W.contents (inner_of writer.old))
-        (W.contents (inner_of writer.new)) text.old.items) }
-    ensures counted { CountsDrawing result (failures_of writer.old) (failures_of writer.new) }
-{
-    if text.len() < GATHERED {
+    table.lawful();
+    if course.entries >= table.limit() {
         return Ok(());
     }
-    hand_on(text, writer)
+    let who = maker(&event);
+    let deed = make(table, &mut course.situation, event, &mut course.notices);
+    course.entries += 1;
+    let now = course.situation.now();
+    let begun = course.instant;
+    course.instant = begun.next(now);
+    let entry = LentEntry {
+        number: course.entries,
+        now,
+        who,
+        process: deed.caller,
+        call: deed.call,
+        reply: deed.reply,
+        notices: course.notices.as_slice(),
+    };
+    let shown = &mut course.shown;
+    add_column(
+        page,
+        style,
+        table,
+        &course.situation,
+        begun,
+        course.instant,
+        &entry,
+        shown,
+    )
 }
 
-/// Draws the picture of the run of the events, on a kernel before any event, and writes it column
-/// by column. It leaves out events for which the history has no room.
+/// Draws the picture of the run of the events on this table, from its situation before any event on, and
+/// writes it column by column. It leaves out events for which the history has no room.
 ///
 /// It takes memory for the text of a column and not for the history. If memory is refused or a
 /// write fails, a prefix of the picture was written.
 pub fn draw<S: Store, W: Sink>(
     alloc: Global,
     style: &Style,
-    kernel: &mut Kernel<S>,
+    table: &Table,
+    situation: Situation<S>,
     events: &[Event],
     writer: &mut Counted<W>,
 ) -> Result<(), DrawFault>
-    requires opened { kernel.old.machine ≡ opening kernel.old.table }
-    requires within { All (IsWithin kernel.old.table.cores) events.now }
+    requires opened { situation_in situation ≡ situation_of table.now (opening table.now) }
+    requires goes_on { (left : ℕ) → left ≤ MOST_ENTRIES
+        → CanGoOn table.now left (situation_in situation) }
+    requires within { All (IsWithin table.now.cores) events.now }
     ensures ok { OnOk result
         (Appends (W.contents (inner_of writer.old)) (W.contents (inner_of writer.new))
-        (picture_text style.now kernel.old.table
-        (run kernel.old.table (opening kernel.old.table) events.now))) }
+        (picture_text style.now table.now (run table.now (opening table.now) events.now))) }
     ensures err { OnErr result
         (AppendsBeginning (W.contents (inner_of writer.old)) (W.contents (inner_of writer.new))
-        (picture_text style.now kernel.old.table
-        (run kernel.old.table (opening kernel.old.table) events.now))) }
+        (picture_text style.now table.now (run table.now (opening table.now) events.now))) }
     ensures counted { CountsDrawing result (failures_of writer.old) (failures_of writer.new) }
 {
-    kernel.holds();
+    table.lawful();
     let mut text = Vec::new(alloc);
-    let (mut instant, mut shown) = (Instant::opening(), tracks_in(kernel));
-    let Ok(()) = put_head(&mut text, style, kernel.table(), &shown) else {
+    let shown = tracks_in(table, &situation);
+    let Ok(()) = put_head(&mut text, style, table, &shown) else {
         return Err(DrawFault::Memory);
+    };
+    let mut page = Page::new(text);
+    let mut course = Course {
+        situation,
+        notices: Notices::new(),
+        entries: 0,
+        instant: Instant::opening(),
+        shown,
     };
     for event in events {
-        let Ok(()) = draw_event(&mut text, style, kernel, *event, &mut instant, &mut shown) else {
+        let Ok(()) = draw_event(&mut page, style, table, &mut course, *event) else {
             return Err(DrawFault::Memory);
         };
-        make_room(&mut text, writer)?;
+        page.make_room(writer)?;
     }
-    let Ok(()) = put_foot(&mut text, style, kernel, instant, &shown) else {
+    let Ok(()) = add_foot(&mut page, style, table, &course) else {
         return Err(DrawFault::Memory);
     };
-    hand_on(&mut text, writer)
+    page.hand_on(writer)
 }

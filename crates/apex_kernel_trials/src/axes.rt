@@ -5,7 +5,8 @@ ghost use Rattle.apex_machine.specs.Events.{IsWithin};
 ghost use Rattle.apex_machine.specs.Machine.{opening};
 
 use crate::scans::booted;
-use apex_dispatch::Kernel;
+use apex_configs::Table;
+use apex_dispatch::{Kernel, Situation};
 use apex_drawing::{Style, draw};
 use apex_history::Counted;
 use apex_pictures::{Extent, Frame, Side};
@@ -43,14 +44,21 @@ fn events() -> [Event; 7]
     ]
 }
 
+/// The table of this text, which has one core.
+fn table_of<R: Abort>(rt: &R, alloc: Global, text: &str) -> Table
+    ensures cores { result.cores ≡ 1 }
+{
+    let table = read_table(alloc, text.as_bytes()).expect(rt, "the table is lawful");
+    assert!(rt; table.cores() == 1);
+    table
+}
+
 /// The kernel of the table of this text before any event. It has one core.
 fn kernel_of<R: Abort>(rt: &R, alloc: Global, text: &str) -> Kernel<QueueStore>
     ensures cores { result.table.cores ≡ 1 }
     ensures opened { result ≡ kernel_in result.table (opening result.table) result.store }
 {
-    let table = read_table(alloc, text.as_bytes()).expect(rt, "the table is lawful");
-    assert!(rt; table.cores() == 1);
-    booted(rt, alloc, table)
+    booted(rt, alloc, table_of(rt, alloc, text))
 }
 
 /// The frame of a run of these events, with its columns along this axis, with idle entries folded or
@@ -89,10 +97,12 @@ pub(crate) fn drawn<R: Abort>(
 ) -> Vec<u8>
     requires { All (IsWithin 1) events.now }
 {
-    let mut kernel = kernel_of(rt, alloc, text);
+    let table = table_of(rt, alloc, text);
+    let store = QueueStore::new(alloc, &table).expect(rt, "memory");
+    let situation = Situation::opening(alloc, &table, store).expect(rt, "memory");
     let mut picture = Counted::new(Vec::new(alloc));
-    let done = draw(alloc, style, &mut kernel, events, &mut picture);
-    drop(kernel);
+    let done = draw(alloc, style, &table, situation, events, &mut picture);
+    drop(table);
     done.expect(rt, "memory");
     picture.into_inner()
 }

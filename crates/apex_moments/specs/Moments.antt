@@ -1,6 +1,6 @@
 -- The processes and the counts after an entry, as a picture shows them, and the columns of a picture.
 use Rattle.std.specs.Prelude.{◌≡◌, ℕ, List, [], ◌∷◌, ◌++◌, length, Option, None}
-use Rattle.apex_moments.specs.Counts.{Counts, counts_after, no_counts}
+use Rattle.apex_moments.specs.Counts.{Counts, counts_after, counts_of, no_counts}
 use Rattle.apex_moments.specs.Instants.{instant_after}
 use Rattle.apex_moments.specs.declared.instants.Instant.{Instant}
 use Rattle.apex_moments.specs.Places.{of_places}
@@ -8,6 +8,7 @@ use Rattle.apex_moments.specs.Terms.{Cell, Entry}
 use Rattle.apex_types.specs.declared.modes.State.TheVariants.{Dormant}
 use Rattle.apex_types.specs.declared.limits.TheConstants.{MOST_CORES}
 use Rattle.apex_machine.specs.Machine.{Machine}
+use Rattle.apex_machine.specs.Situations.{Situation}
 use Rattle.apex_machine.specs.processes.Roster.{Roster, record_at, opening_roster}
 use Rattle.apex_machine.specs.processes.Running.{chosen, process_state}
 use Rattle.apex_machine.specs.table.Table.{Table}
@@ -53,6 +54,11 @@ moment_of roster counts = record {
   running = running_in roster;
   counts = counts;
 }
+
+-- the moment of a situation of this table
+abbrev pub moment_at : Table → Situation → Shown
+moment_at table situation =
+    moment_of situation.roster (counts_of table situation.roster situation.objects)
 
 -- the moment of a machine
 abbrev pub moment_in : Table → Machine → Shown

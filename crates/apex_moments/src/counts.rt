@@ -5,7 +5,7 @@ ghost use Rattle.apex_moments.specs.Counts.{counts_in, counts_of, owners_in};
 
 use crate::kinds::Kind;
 use apex_configs::Table;
-use apex_dispatch::{Kernel, Objects};
+use apex_dispatch::Objects;
 use apex_store::Store;
 use apex_types::{MOST_OBJECTS, MutexId, ProcessId};
 use arrayvec::ArrayVec;
@@ -66,7 +66,7 @@ fn owners_in<S: Store>(table: &Table, store: &S) -> ArrayVec<Option<ProcessId>, 
 
 /// The counts of these objects, and the owners of the mutexes.
 #[tactic(auto, unfolding(crate::specs::Counts::counts_of))]
-fn counts_from<S: Store>(table: &Table, objects: &Objects, store: &S) -> Counts
+pub fn counts_of<S: Store>(table: &Table, objects: &Objects, store: &S) -> Counts
     ensures { result ≡ counts_of table.now (S.roster store.now) objects.now }
 {
     Counts {
@@ -76,14 +76,6 @@ fn counts_from<S: Store>(table: &Table, objects: &Objects, store: &S) -> Counts
         flags: counts_in(table, objects, Kind::EventFlag),
         owners: owners_in(table, store),
     }
-}
-
-/// The counts of a kernel's objects, and the owners of its mutexes.
-pub fn counts_of<S: Store>(kernel: &Kernel<S>) -> Counts
-    ensures { result ≡ counts_of kernel.now.table kernel.now.machine.roster kernel.now.objects }
-{
-    kernel.holds();
-    counts_from(kernel.table(), kernel.situation().objects(), kernel.store())
 }
 
 impl Counts {

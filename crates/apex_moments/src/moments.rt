@@ -3,10 +3,12 @@ ghost use Rattle.std.specs.Prelude.{◌≡◌, ◌<◌, ◌≤◌, length, not, 
 ghost use Rattle.apex_types.specs.declared.limits.TheConstants.{MOST_CORES, MOST_PROCESSES};
 ghost use Rattle.apex_machine.specs.processes.Running.{chosen, is_eligible, is_process};
 ghost use Rattle.apex_types.specs.declared.modes.State.TheVariants.{Dormant, Ready, Running, Waiting};
-ghost use Rattle.apex_moments.specs.Moments.{cell_of, moment_in, moment_of, no_cell, running_in};
+ghost use Rattle.apex_dispatch.specs.Situations.{situation_in};
+ghost use Rattle.apex_moments.specs.Moments.{cell_of, moment_at, moment_of, no_cell, running_in};
 
 use crate::counts::{Counts, counts_of};
-use apex_dispatch::Kernel;
+use apex_configs::Table;
+use apex_dispatch::Situation;
 use apex_machine::{Holdings, Record, Wait};
 use apex_store::Store;
 use apex_types::{CoreId, MOST_CORES, MOST_PROCESSES, Mode, ProcessId, State};
@@ -149,12 +151,13 @@ fn moment_of<S: Store>(store: &S, counts: Counts) -> Moment
     }
 }
 
-/// The moment of a kernel.
-pub fn moment_in<S: Store>(kernel: &Kernel<S>) -> Moment
-    ensures { result ≡ moment_in kernel.now.table kernel.now.machine }
+/// The moment of a situation of this table.
+pub fn moment_in<S: Store>(table: &Table, situation: &Situation<S>) -> Moment
+    requires { length situation.now.roster.records ≤ MOST_PROCESSES }
+    ensures { result ≡ moment_at table.now (situation_in situation.now) }
 {
-    kernel.holds();
-    moment_of(kernel.store(), counts_of(kernel))
+    let store = situation.store();
+    moment_of(store, counts_of(table, situation.objects(), store))
 }
 
 impl Moment {

@@ -163,22 +163,24 @@ notices_same time entry one other same =
 
 -- the parts of a column, one behind the other
 pub column_whole : (table : Table) (span : Span) (before : Shown) (entry : Entry) (after : Shown)
-    (text one two three four five whole : List ℕ)
-    → one ≡ trace.call_text table span entry after
+    (text one two three four five : List ℕ)
+    → one ≡ text ++ trace.call_text table span entry after
     → two ≡ one ++ texts_of (trace.core_at table span.end before after) table.cores
     → three ≡ two ++ texts_of (trace.process_at table span.end before after) (length table.processes)
     → four ≡ three ++ objects_text table span.end before.counts after.counts
     → five ≡ four ++ trace.notices_text span.end entry after
-    → whole ≡ text ++ five
-    → whole ≡ text ++ trace.column_text table span before entry after
-column_whole table span before entry after text one two three four five whole u v w x y z =
+    → five ≡ text ++ trace.column_text table span before entry after
+column_whole table span before entry after text one two three four five u v w x y =
     let call = trace.call_text table span entry after in
     let cores = texts_of (trace.core_at table span.end before after) table.cores in
     let processes = texts_of (trace.process_at table span.end before after) (length table.processes) in
     let objects = objects_text table span.end before.counts after.counts in
     let notices = trace.notices_text span.end entry after in
-    z ∙ ap (λ l. text ++ l) (y ∙ ap (λ l. l ++ notices) (x ∙ ap (λ l. l ++ objects) (w ∙ ap (λ l. l ++ processes)
-    (v ∙ ap (λ l. l ++ cores) u) ∙ append_assoc call cores processes)))
+    let changed = call ++ (cores ++ processes) in
+    let first = w ∙ ap (λ l. l ++ processes) (v ∙ ap (λ l. l ++ cores) u)
+    ∙ append_assoc (text ++ call) cores processes ∙ append_assoc text call (cores ++ processes) in
+    y ∙ ap (λ l. l ++ notices) (x ∙ ap (λ l. l ++ objects) first ∙ append_assoc text changed objects)
+    ∙ append_assoc text (changed ++ objects) notices
 
 -- the text of a column
 pub column_same : (table : Table) (span : Span) (before : Shown) (entry : Entry) (after : Shown)

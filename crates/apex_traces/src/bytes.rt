@@ -27,7 +27,7 @@ fn put_front<const N: usize>(cells: &mut [u8], place: usize, bytes: &[u8])
 
 /// Bytes in a buffer of fixed room.
 #[derive(Drop)]
-pub(crate) struct Bytes<const ROOM: usize> {
+pub struct Bytes<const ROOM: usize> {
     /// The number of the bytes. It is before the cells, and narrower than their addresses: so a
     /// compiler sees that no copy into the cells changes it.
     count: u32,
@@ -46,7 +46,8 @@ impl<const ROOM: usize> Model for Bytes<ROOM> {
 }
 
 impl<const ROOM: usize> Bytes<ROOM> {
-    pub(crate) fn new() -> Bytes<ROOM>
+    /// A buffer without bytes.
+    pub fn new() -> Bytes<ROOM>
         requires { ROOM < 2 ^ 32 }
         ensures { result.items ≡ [] }
     {
@@ -56,14 +57,22 @@ impl<const ROOM: usize> Bytes<ROOM> {
         }
     }
 
+    /// The number of bytes.
+    pub fn len(&self) -> usize
+        ensures { result ≡ array_vec_len self.now }
+    {
+        self.count as usize
+    }
+
     /// Forgets all bytes.
-    pub(crate) fn clear(&mut self)
+    pub fn clear(&mut self)
         ensures { self.new.items ≡ [] }
     {
         self.count = 0;
     }
 
-    pub(crate) fn as_slice(&self) -> &[u8]
+    /// The bytes.
+    pub fn as_slice(&self) -> &[u8]
         ensures value { result.now ≡ self.now.items }
         ensures fits { length result.now ≤ ROOM }
     {

@@ -18,6 +18,8 @@ mod times;
 mod trace;
 mod tracks;
 
+pub use bytes::Bytes;
 pub use calls::Span;
-pub use trace::{put_column, put_foot, put_head};
+pub use pieces::{COLUMN, GATHERED, PIECE_ROOM, Piece};
+pub use trace::{add_column, put_foot, put_head};
 pub use tracks::{Tracks, tracks_in};

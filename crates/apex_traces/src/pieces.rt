@@ -1,5 +1,5 @@
-//! The pieces of a trace: what an entry changes is put together in a buffer of fixed room, and goes to
-//! the trace's text at once.
+//! The pieces of a trace: its columns are put together in a buffer of fixed room, which is written as
+//! it is.
 ghost use Rattle.std.specs.Prelude.{◌≡◌, ◌+◌, ◌*◌, ◌/◌, ◌%◌, ◌<◌, ◌≤◌, [], ◌∷◌, ◌++◌, decimal, length};
 ghost use Rattle.apex_json.specs.declared.strings.TheConstants.{MOST_ESCAPE};
 ghost use Rattle.arrayvec.specs.ArrayVec.{array_vec_len};
@@ -29,19 +29,25 @@ pub(crate) const MARK: usize = 160;
 /// The most bytes of the beginning or the end of an arrow.
 pub(crate) const ARROW: usize = 160;
 
-/// The most bytes of a piece: the slice of a call, the changes on all tracks and of all counters, and
+/// The most bytes of a column: the slice of a call, the changes on all tracks and of all counters, and
 /// the marks and arrows of all notices.
-pub(crate) const PIECE_ROOM: usize = CALL
+pub const COLUMN: usize = CALL
     + TRACK * (MOST_CORES as usize + MOST_PROCESSES + MOST_OBJECTS)
     + COUNTER * 4 * MOST_OBJECTS
     + (MARK + 2 * ARROW) * MOST_NOTICES;
+
+/// The least number of bytes that are gathered before they are written.
+pub const GATHERED: usize = 131_072;
+
+/// The most bytes of a piece: those that are gathered, and one more column.
+pub const PIECE_ROOM: usize = GATHERED + COLUMN;
 
 /// The digits of each number below 100, with a space behind one digit.
 static NUMBERS: [u8; 200] =
     *b"0 1 2 3 4 5 6 7 8 9 101112131415161718192021222324252627282930313233343536373839404142434445464748495051525354555657585960616263646566676869707172737475767778798081828384858687888990919293949596979899";
 
-/// The changes by an entry.
-pub(crate) type Piece = Bytes<PIECE_ROOM>;
+/// Columns of a trace that are not written yet.
+pub type Piece = Bytes<PIECE_ROOM>;
 
 /// Adds these bytes.
 #[inline(always)]

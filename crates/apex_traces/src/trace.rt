@@ -7,11 +7,12 @@ ghost use Rattle.apex_machine.specs.text.Listing.{texts_of};
 ghost use Rattle.apex_types.specs.declared.limits.TheConstants.{MOST_CORES, MOST_NOTICES, MOST_OBJECTS, MOST_PROCESSES};
 ghost use Rattle.apex_calls.specs.Lines.{IsPrintable};
 ghost use Rattle.apex_moments.specs.Counts.{HasCounts};
-ghost use Rattle.apex_moments.specs.Moments.{moment_in, none_shown, running_in, with_cells, with_running};
+ghost use Rattle.apex_dispatch.specs.Situations.{situation_in};
+ghost use Rattle.apex_moments.specs.Moments.{moment_at, none_shown, running_in, with_cells, with_running};
 ghost use Rattle.apex_moments.specs.Places.{of_places};
 ghost use Rattle.apex_traces.specs.Stamps.{Stamps};
 ghost use Rattle.apex_traces.specs.Trace as trace;
-ghost use Rattle.apex_traces.specs.declared.pieces.TheConstants.{ARROW, CALL, MARK, PIECE_ROOM, TRACK};
+ghost use Rattle.apex_traces.specs.declared.pieces.TheConstants.{ARROW, CALL, COLUMN, MARK, PIECE_ROOM, TRACK};
 ghost use Rattle.apex_traces.specs.declared.trace.TheConstants.{BEGIN, END, MARK_DETAIL, MARK_WORD, NAME};
 ghost use Rattle.apex_traces.specs.Beings.{is_begun};
 ghost use Rattle.apex_traces.specs.declared.beings.TheConstants.{BEING_ROOM};
@@ -27,7 +28,7 @@ use crate::pieces::{ARROW, CALL, DIGITS, MARK, Piece, TRACK, add, add_text, add_
 use crate::stamps::{FRONT, TIMED, Timed, add_begin_front, add_end_front, add_stamp};
 use crate::tracks::{Tracks, is_still, track_at, track_by};
 use apex_configs::Table;
-use apex_dispatch::Kernel;
+use apex_dispatch::Situation;
 use apex_json::MOST_ESCAPE;
 use apex_moments::{
     CORES, Part, code_word, deadline_word, id_part, name_of, profile_number, put, put_all,
@@ -624,29 +625,29 @@ pub(crate) fn add_notices<S: Store>(
     add_heads(piece, store, time, stamp, entry.number, entry.notices);
 }
 
-/// Puts the column of the latest entry: its call, the changes by it on the tracks and of the counters,
+/// Adds the column of the latest entry: its call, the changes by it on the tracks and of the counters,
 /// and its notices. `shown` are the tracks before it, and then those after it.
-pub fn put_column<S: Store>(
-    text: &mut Vec<u8>,
-    kernel: &Kernel<S>,
+pub fn add_column<S: Store>(
+    piece: &mut Piece,
+    table: &Table,
+    situation: &Situation<S>,
     span: Span,
     entry: &LentEntry<'_>,
     shown: &mut Tracks,
-) -> Result<(), AllocError>
-    requires printable { IsPrintable kernel.now.table entry.now }
-    requires many { length shown.old.cells ≡ length kernel.now.machine.roster.records }
-    requires counts { HasCounts shown.old.counts kernel.now.table }
+)
+    requires printable { IsPrintable table.now entry.now }
+    requires records { length situation.now.roster.records ≡ length table.now.processes }
+    requires many { length shown.old.cells ≡ length situation.now.roster.records }
+    requires counts { HasCounts shown.old.counts table.now }
     requires cores { length shown.old.running ≡ MOST_CORES }
-    ensures text { OnOk result (text.new.items ≡ text.old.items
-        ++ trace.column_text kernel.now.table span shown.old entry.entry.now
-        (bare (moment_in kernel.now.table kernel.now.machine))) }
-    ensures shown { OnOk result (shown.new
-        ≡ bare (moment_in kernel.now.table kernel.now.machine)) }
+    requires room { array_vec_len piece.old + COLUMN ≤ PIECE_ROOM }
+    ensures text { piece.new.items ≡ piece.old.items
+        ++ trace.column_text table.now span shown.old entry.entry.now
+        (bare (moment_at table.now (situation_in situation.now))) }
+    ensures shown { shown.new ≡ bare (moment_at table.now (situation_in situation.now)) }
 {
-    kernel.holds();
-    let table = kernel.table();
-    let objects = kernel.situation().objects();
-    shown.put_column(text, table, objects, kernel.store(), span, entry)
+    let (objects, store) = (situation.objects(), situation.store());
+    shown.add_column(piece, table, objects, store, span, entry);
 }
 
 /// Adds the ends of all slices.

@@ -1,30 +1,30 @@
 //! The processes and the counts after an entry, as a trace shows them.
-ghost use Rattle.std.specs.Prelude.{◌≡◌, ◌<◌, ◌≤◌, ◌++◌, IsTrue, length, map, slice_index_or, OnOk};
+ghost use Rattle.std.specs.Prelude.{◌≡◌, ◌+◌, ◌<◌, ◌≤◌, ◌++◌, IsTrue, length, map, slice_index_or};
+ghost use Rattle.arrayvec.specs.ArrayVec.{array_vec_len};
 ghost use Rattle.apex_types.specs.declared.limits.TheConstants.{MOST_CORES, MOST_PROCESSES};
 ghost use Rattle.apex_calls.specs.Lines.{IsPrintable};
 ghost use Rattle.apex_machine.specs.processes.Roster.{record_at};
 ghost use Rattle.apex_moments.specs.Counts.{HasCounts, counts_of};
-ghost use Rattle.apex_moments.specs.Moments.{moment_in, moment_of, running_in};
+ghost use Rattle.apex_dispatch.specs.Situations.{situation_in};
+ghost use Rattle.apex_moments.specs.Moments.{moment_at, moment_of, running_in};
 ghost use Rattle.apex_traces.specs.Trace.{column_text};
 ghost use Rattle.apex_traces.specs.Tracks.{bare, cell_on, track_of};
 ghost use Rattle.apex_traces.specs.declared.beings.Being.TheVariants.{Dormant, Ready, Running};
+ghost use Rattle.apex_traces.specs.declared.pieces.TheConstants.{COLUMN, PIECE_ROOM};
 
 use crate::beings::{Being, being_of, is_awaiting};
 use crate::calls::{Said, Span};
 use crate::changes::add_changes;
-use crate::pieces::Piece;
+use crate::pieces::{COLUMN, PIECE_ROOM, Piece};
 use crate::stamps::Timed;
 use crate::trace::{add_call, add_notices, add_processes, add_runs};
 use apex_configs::Table;
-use apex_dispatch::{Kernel, Objects};
+use apex_dispatch::{Objects, Situation};
 use apex_machine::Record;
-use apex_moments::{
-    CORES, Counts, counts_of, is_process, put_bytes, running_at, running_of, state_of,
-};
+use apex_moments::{CORES, Counts, counts_of, is_process, running_at, running_of, state_of};
 use apex_store::Store;
 use apex_types::{CoreId, LentEntry, MOST_CORES, MOST_PROCESSES, ProcessId, State};
 use arrayvec::ArrayVec;
-use std::alloc::AllocError;
 use std::marker::Model;
 
 /// All processes after an entry, as a trace shows them: what the slice of each of them shows, and the
@@ -36,8 +36,6 @@ pub struct Tracks {
     tracks: ArrayVec<Being, MOST_PROCESSES>,
     running: ArrayVec<Option<ProcessId>, CORES>,
     counts: Counts,
-    /// The column of an entry, before it is put.
-    piece: Piece,
     said: Said,
     /// The time after the latest column.
     latest: Timed,
@@ -172,18 +170,18 @@ fn tracks_of<S: Store>(store: &S, counts: Counts) -> Tracks
         tracks,
         running,
         counts,
-        piece: Piece::new(),
         said: Said::new(),
         latest: Timed::new(0),
     }
 }
 
-/// The tracks of a kernel.
-pub fn tracks_in<S: Store>(kernel: &Kernel<S>) -> Tracks
-    ensures { result ≡ bare (moment_in kernel.now.table kernel.now.machine) }
+/// The tracks of a situation of this table.
+pub fn tracks_in<S: Store>(table: &Table, situation: &Situation<S>) -> Tracks
+    requires { length situation.now.roster.records ≤ MOST_PROCESSES }
+    ensures { result ≡ bare (moment_at table.now (situation_in situation.now)) }
 {
-    kernel.holds();
-    tracks_of(kernel.store(), counts_of(kernel))
+    let store = situation.store();
+    tracks_of(store, counts_of(table, situation.objects(), store))
 }
 
 /// What the track at a place shows; DORMANT if there is no such track.
@@ -198,52 +196,44 @@ pub(crate) fn track_at(tracks: &[Being], place: usize) -> Being
 }
 
 impl Tracks {
-    /// Brings the tracks and the counts up to the processes of a store and these objects, and puts
+    /// Brings the tracks and the counts up to the processes of a store and these objects, and adds
     /// the column of the latest entry.
     #[tactic(auto, using(std::proofs::Common::append_assoc))]
-    pub(crate) fn put_column<S: Store>(
+    pub(crate) fn add_column<S: Store>(
         &mut self,
-        text: &mut Vec<u8>,
+        piece: &mut Piece,
         table: &Table,
         objects: &Objects,
         store: &S,
         span: Span,
         entry: &LentEntry<'_>,
-    ) -> Result<(), AllocError>
+    )
         requires printable { IsPrintable table.now entry.now }
         requires counts { HasCounts self.old.counts table.now }
         requires cores { length self.old.running ≡ MOST_CORES }
         requires tracks { length self.old.cells ≡ length (S.roster store.now).records }
         requires table { length table.now.processes ≡ length (S.roster store.now).records }
-        ensures text { OnOk result (text.new.items ≡ text.old.items
+        requires room { array_vec_len piece.old + COLUMN ≤ PIECE_ROOM }
+        ensures text { piece.new.items ≡ piece.old.items
             ++ column_text table.now span self.old entry.entry.now
             (bare (moment_of (S.roster store.now)
-            (counts_of table.now (S.roster store.now) objects.now)))) }
+            (counts_of table.now (S.roster store.now) objects.now))) }
         ensures shown { self.new ≡ bare (moment_of (S.roster store.now)
             (counts_of table.now (S.roster store.now) objects.now)) }
     {
         self.latest.reach(span.begin);
-        self.piece.clear();
-        add_call(
-            &mut self.piece,
-            &mut self.said,
-            table,
-            store,
-            span,
-            &self.latest,
-            entry,
-        );
+        let said = &mut self.said;
+        add_call(piece, said, table, store, span, &self.latest, entry);
         let time = span.end;
         self.latest.reach(time);
         let stamp = &self.latest;
         let running = self.running.as_mut_slice();
-        add_runs(&mut self.piece, table, store, time, stamp, running);
+        add_runs(piece, table, store, time, stamp, running);
         let (running, tracks) = (self.running.as_slice(), self.tracks.as_mut_slice());
-        add_processes(&mut self.piece, table, store, running, time, stamp, tracks);
+        add_processes(piece, table, store, running, time, stamp, tracks);
         let counts = &mut self.counts;
-        add_changes(counts, &mut self.piece, table, objects, store, time, stamp);
-        add_notices(&mut self.piece, store, time, stamp, entry);
-        put_bytes(text, self.piece.as_slice())
+        add_changes(counts, piece, table, objects, store, time, stamp);
+        add_notices(piece, store, time, stamp, entry);
     }
 
     /// The tracks of the processes.

@@ -1,5 +1,5 @@
 -- What a source gives, and the ways in which a showing ends, by what was at fault.
-use Rattle.std.proofs.Common.{◌≡◌, ◌∙◌, ◌⊎◌, inl, inr, List, ℕ, Option, None, Some, Ok, ap, length, refl, subst, sym}
+use Rattle.std.proofs.Common.{◌≡◌, ◌∙◌, ◌⊎◌, inl, inr, List, ℕ, Option, None, Some, Ok, ap, refl, subst, sym}
 use Rattle.apex_machine.specs.Machine.{Machine}
 use Rattle.apex_machine.specs.table.Table as tables
 use Rattle.apex_types.specs.declared.entries.Entry.{Entry}

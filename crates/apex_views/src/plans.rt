@@ -16,8 +16,8 @@ ghost use Rattle.apex_showings.specs.Showings.{Picture as PictureAsked, chart_sa
 use crate::departures::{Departure, extent_of, marked};
 use crate::faults::first_fault;
 use apex_configs::Table;
-use apex_console::{CliFault, booted, repeated};
-use apex_dispatch::{Kernel, events_in};
+use apex_console::{CliFault, repeated};
+use apex_dispatch::{Kernel, Situation, events_in};
 use apex_drawing::{DrawFault, Style, draw};
 use apex_history::{Counted, Sink};
 use apex_pictures::{Excerpt, Frame};
@@ -174,47 +174,28 @@ fn fault_of(fault: DrawFault) -> CliFault
     }
 }
 
-/// Draws the picture of the events in this style, on a kernel before any event.
-fn draw_on<W: Sink>(
-    alloc: Global,
-    style: &Style,
-    kernel: &mut Kernel<QueueStore>,
-    events: &[Event],
-    writer: &mut Counted<W>,
-) -> Result<(), CliFault>
-    requires opened { kernel.old.machine ≡ opening kernel.old.table }
-    requires within { All (IsWithin kernel.old.table.cores) events.now }
-    ensures { let machine = run kernel.old.table (opening kernel.old.table) events.now in
-        (picture : PictureAsked) (departure : Option DepartureAt)
-        → IsStyleOf picture kernel.old.table machine.history departure style.now
-        → Shows (drawn picture) kernel.old.table machine departure
-        (W.contents (inner_of writer.old)) (failures_of writer.old) (fault_in result)
-        (W.contents (inner_of writer.new)) (failures_of writer.new) }
-{
-    match draw(alloc, style, kernel, events, writer) {
-        Ok(()) => Ok(()),
-        Err(fault) => Err(fault_of(fault)),
-    }
-}
-
 /// Draws the picture of the run of the events on a table in this style.
 fn draw_run<W: Sink>(
     alloc: Global,
     style: &Style,
-    table: Table,
+    table: &Table,
     events: &[Event],
     writer: &mut Counted<W>,
 ) -> Result<(), CliFault>
-    requires { All (IsWithin table.cores) events.now }
-    ensures { let machine = run table (opening table) events.now in
+    requires { All (IsWithin table.now.cores) events.now }
+    ensures { let machine = run table.now (opening table.now) events.now in
         (picture : PictureAsked) (departure : Option DepartureAt)
-        → IsStyleOf picture table machine.history departure style.now
-        → Shows (drawn picture) table machine departure
+        → IsStyleOf picture table.now machine.history departure style.now
+        → Shows (drawn picture) table.now machine departure
         (W.contents (inner_of writer.old)) (failures_of writer.old) (fault_in result)
         (W.contents (inner_of writer.new)) (failures_of writer.new) }
 {
-    let mut kernel = booted(alloc, table)?;
-    draw_on(alloc, style, &mut kernel, events, writer)
+    let store = QueueStore::new(alloc, table)?;
+    let situation = Situation::opening(alloc, table, store)?;
+    match draw(alloc, style, table, situation, events, writer) {
+        Ok(()) => Ok(()),
+        Err(fault) => Err(fault_of(fault)),
+    }
 }
 
 /// Draws the picture of a plan, whatever fault the plan has.
@@ -236,7 +217,7 @@ pub fn draw_plan<W: Sink>(
         events,
         fault: _,
     } = plan;
-    draw_run(alloc, &style, table, events.as_slice(), writer)
+    draw_run(alloc, &style, &table, events.as_slice(), writer)
 }
 
 /// Draws the picture of a plan, and answers its fault once it is drawn.

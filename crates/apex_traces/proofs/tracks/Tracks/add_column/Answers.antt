@@ -1,7 +1,6 @@
 -- The tracks are those of the processes.
 use Rattle.std.proofs.Common.{◌≡◌, ◌∙◌, ◌++◌, ℕ, List, Option, ap, length, refl, subst, sym}
 use Rattle.std.proofs.lemmas.List.{length-map}
-use Rattle.std.proofs.lemmas.Result.{on_ok_weaker}
 use Rattle.std.specs.Prelude.{map}
 use Rattle.arrayvec.proofs.ArrayVecLemmas.{items-with_items}
 use Rattle.arrayvec.specs.ArrayVec.{with_items}
@@ -15,7 +14,7 @@ use Rattle.apex_traces.specs.Tracks.{bare, bare_cells, cell_on, track_of}
 use Rattle.apex_traces.specs.declared.beings.Being.{Being}
 use Rattle.apex_moments.proofs.Places.{length_of}
 use Rattle.apex_traces.proofs.TracksShown.{call_same, column_whole, notices_same, shown_of, tracks_same}
-use Rattle.apex_traces.proofs.tracks.Tracks.put_column.Goals as goal
+use Rattle.apex_traces.proofs.tracks.Tracks.add_column.Goals as goal
 
 pub add_changes-requires-clause-counts : goal.add_changes-requires-clause-counts
 add_changes-requires-clause-counts g c =
@@ -48,22 +47,18 @@ returns-clause-text g c =
     let table = c.args.table.now in
     let span = c.args.span in
     let entry = c.args.entry.now in
-    let text = c.args.text.now.items in
+    let text = c.args.piece.now.items in
     let before = shown_of (map cell_on c.self.inside.tracks.items) c.self.inside.running.items c.self.inside.counts in
     let after = bare (moment_of roster (counts_of table roster c.args.objects.now)) in
     let cells = with_cells (bare_cells roster) in
-    let call : c.add_call.new.piece.items ≡ call_text table span entry after =
-    (rw c.clear.ensures at c.add_call.ensures.text) ∙ call_same table span entry cells after (λ p. refl) in
+    let call : c.add_call.new.piece.items ≡ text ++ call_text table span entry after =
+    c.add_call.ensures.text ∙ ap (λ l. text ++ l) (call_same table span entry cells after (λ p. refl)) in
     let notices = notices_same span.end entry cells after (λ p. refl) in
-    on_ok_weaker c.put_bytes.result
-    (λ put. subst (λ (shown : Shown). c.put_bytes.new.text.items ≡ text ++ column_text table span shown entry after) c.self.view_is
+    subst (λ (shown : Shown). c.add_notices.new.piece.items ≡ text ++ column_text table span shown entry after) c.self.view_is
     (column_whole table span before entry after text c.add_call.new.piece.items c.add_runs.new.piece.items
-    c.add_processes.new.piece.items c.add_changes.new.piece.items c.add_notices.new.piece.items
-    c.put_bytes.new.text.items call
+    c.add_processes.new.piece.items c.add_changes.new.piece.items c.add_notices.new.piece.items call
     (rw c.as_mut_slice-running.ensures.value at c.add_runs.ensures.text)
     ((rw c.as_mut_slice-tracks.ensures.value at c.add_processes.ensures.text)
     ∙ ap (λ n. c.add_runs.new.piece.items ++ texts_of (process_at table span.end before after) n) (sym c.requires.table))
     c.add_changes.ensures.text
-    (c.add_notices.ensures.text ∙ ap (λ l. c.add_changes.new.piece.items ++ l) notices)
-    (rw c.as_slice.ensures.value at put)))
-    c.put_bytes.ensures
+    (c.add_notices.ensures.text ∙ ap (λ l. c.add_changes.new.piece.items ++ l) notices))
