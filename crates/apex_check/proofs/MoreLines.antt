@@ -30,6 +30,7 @@ use Rattle.apex_check.specs.Steps.{Adds, Answers, IsLineFaultOf, Judged, fault_a
 use Rattle.apex_check.specs.Texts.{IsOneLine, ended}
 use Rattle.apex_check.specs.Verdicts.{JudgesLines, LineIsAtFault, bad, beyond, departs, legal, too_long, unended}
 use Rattle.apex_check.proofs.Separated.{text_more}
+use Rattle.apex_history.proofs.EntriesOf.{last_put}
 
 -- ---- the entry that an event adds
 
@@ -38,10 +39,6 @@ pub event_adds : (table : Table) (machine : Machine) (event : Event)
 unfolding turn tick
 event_adds table machine (Turn core) = (_, refl, refl)
 event_adds table machine (Tick n) = (_, refl, refl)
-
-last_put : {A : Type 0} (o : Option A) (xs : List A) (x : A) → last_or o (xs ++ x ∷ []) ≡ Some x
-last_put o [] x = refl
-last_put o (y ∷ xs) x = last_put (Some y) xs x
 
 last_at : (o : Option Entry) (entry : Entry) (rest : List Entry) (found : Entry) → last_or o (entry ∷ rest) ≡ Some found
     → get_or (entry ∷ rest) (length rest) found ≡ found

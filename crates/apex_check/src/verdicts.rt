@@ -32,7 +32,7 @@ pub enum Verdict {
 /// A line is given by its number, counted from 1 behind the separator.
 ///
 /// Its text is the line of the program without the program's name.
-#[derive(Clone, Copy, Debug, PartialEq, Eq)]
+#[derive(Clone, Copy, PartialEq, Eq)]
 pub enum CheckFault {
     /// A growth was refused.
     Memory,
@@ -61,6 +61,13 @@ impl fmt::Display for CheckFault {
             CheckFault::Read => f.write_str("read failed"),
             CheckFault::Write => f.write_str("write failed"),
         }
+    }
+}
+
+/// A programmer reads the fault's text, too.
+impl fmt::Debug for CheckFault {
+    fn fmt<W: fmt::Write>(&self, f: &mut fmt::Formatter<W>) -> fmt::Result {
+        fmt::Display::fmt(self, f)
     }
 }
 

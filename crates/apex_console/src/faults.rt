@@ -27,7 +27,7 @@ pub type Line = ArrayString<FAULT_ROOM>;
 /// The reason why a program did not do all that was asked.
 ///
 /// Its text is the line that the program writes on standard error.
-#[derive(Clone, Copy, Debug, PartialEq, Eq)]
+#[derive(Clone, Copy, PartialEq, Eq)]
 pub enum CliFault {
     /// The words ask for nothing that the program does, or the schedule is ill-formed or names a
     /// core that the table lacks.
@@ -143,6 +143,13 @@ impl fmt::Display for CliFault {
     fn fmt<W: fmt::Write>(&self, f: &mut fmt::Formatter<W>) -> fmt::Result {
         let text = self.text();
         f.write_str(text.as_str())
+    }
+}
+
+/// A programmer reads the fault's text, too.
+impl fmt::Debug for CliFault {
+    fn fmt<W: fmt::Write>(&self, f: &mut fmt::Formatter<W>) -> fmt::Result {
+        fmt::Display::fmt(self, f)
     }
 }
 

@@ -47,7 +47,7 @@ pub record IsAfter {S : Type 0} (table : Table) (old : Machine) (event : Event) 
   pub kept : IsKept kernel situation log_limit
 
 -- an event adds the entry of its deed
-happens : (table : Table) (machine : Machine) (event : Event)
+pub happens : (table : Table) (machine : Machine) (event : Event)
     → happen table machine event ≡ after_deed machine (maker event) (deed table (situation_of table machine) event)
 unfolding turn tick
 happens table machine (Turn core) = refl

@@ -1,13 +1,13 @@
 -- A course after one event more.
 use Rattle.std.proofs.Math.Seq.{get_or-append_seam}
 use Rattle.std.proofs.Common.{length-append, ◌≡◌, ◌∙◌, ℕ, ◌+◌, ◌-◌, ◌<◌, ◌≤◌, List, [], ◌∷◌, ◌++◌, Option, drop, get_or, length, refl, sym, ap, subst, arith}
-use Rattle.std.specs.Prelude.{All, Some}
-use Rattle.std.specs.List.{last_or}
+use Rattle.std.specs.Prelude.{All}
 use Rattle.std.proofs.lemmas.List.Elements.{All-push}
 use Rattle.apex_types.specs.Limits.{latest}
 use Rattle.apex_dispatch.specs.Deeds.{Does}
 use Rattle.apex_dispatch.specs.Kernel.{room_of}
 use Rattle.apex_dispatch.proofs.MachineSteps.{steps_situation}
+use Rattle.apex_dispatch.proofs.Replays.{happens}
 use Rattle.apex_laws.specs.GoesOn.{CanGoOn}
 use Rattle.apex_laws.specs.Terms.{Call, Caller, Entry, Event, Notice, Reply}
 use Rattle.apex_laws.proofs.GoesOn.{goes_less}
@@ -15,10 +15,9 @@ use Rattle.apex_laws.proofs.Runs.{length-happen}
 use Rattle.apex_laws.proofs.Sound.{IsSound, sound_happen, sound_run, told}
 use Rattle.apex_machine.specs.Deeds.{Deed}
 use Rattle.apex_machine.specs.Events.{IsWithin}
-use Rattle.apex_machine.specs.Machine.{Machine, accept, after_deed, entry_of, events_of, happen, opening, replay, run, situation_of, tick, turn}
+use Rattle.apex_machine.specs.Machine.{Machine, accept, entry_of, events_of, happen, opening, replay, run, situation_of}
 use Rattle.apex_machine.specs.Situations.{Situation, deed, maker, step}
 use Rattle.apex_machine.specs.table.Table.{Table, IsLawful}
-use Rattle.apex_types.specs.declared.entries.Event.TheVariants.{Turn, Tick}
 use Rattle.apex_history.specs.Page.{Passes}
 use Rattle.apex_moments.specs.Moments.{IsPictured}
 use Rattle.apex_moments.proofs.Pictured.{pictured_accept}
@@ -40,13 +39,6 @@ pub time_within : (table : Table) → IsLawful table → (machine : Machine) →
 time_within table lawful machine replays events =
     let sound = sound_replay table lawful machine replays in
     omega (arith, sound.time events, sound.within, lawful.limit)
-
--- an event adds the entry of its deed
-happens : (table : Table) (machine : Machine) (event : Event)
-    → happen table machine event ≡ after_deed machine (maker event) (deed table (situation_of table machine) event)
-unfolding turn tick
-happens table machine (Turn core) = refl
-happens table machine (Tick n) = refl
 
 -- the situation is that of the machine after the event, and the entry is the event's
 pub record IsNext (table : Table) (machine : Machine) (event : Event) (new : Situation) (entry : Entry) : Type 0 where
@@ -97,7 +89,7 @@ module _ (table : Table) (lawful : IsLawful table) (machine : Machine) (replays 
         sound = sound_happen table lawful machine sound event room;
       }
 
--- the events before these were made: the writer has a prefix of the picture so far, and the text is the rest
+-- the events before these were made: the writer has a prefix of the picture so far, and the page is the rest
 pub record IsDrawn {S : Type 0} (style : Style) (table : Table) (events others : List Event) (course : Course S)
     (begun written : Option (List ℕ)) (held : List ℕ) : Type 0 where
   pub machine : Machine
@@ -129,8 +121,3 @@ pub last_holds : (P : Entry → Type 0) (history : List Entry) (entry : Entry) �
 last_holds P history entry all =
     subst P (get_or-append_seam history entry [] entry)
     (all (length history) entry (omega (arith, length-append history (entry ∷ []))))
-
--- the last of them
-pub last_put : {A : Type 0} (o : Option A) (xs : List A) (x : A) → last_or o (xs ++ x ∷ []) ≡ Some x
-last_put o [] x = refl
-last_put o (y ∷ xs) x = last_put (Some y) xs x

@@ -1,7 +1,7 @@
 //! What a search answers.
 
 /// What a search found.
-#[derive(Debug, PartialEq, Eq, Drop)]
+#[derive(PartialEq, Eq, Drop)]
 pub enum Answer {
     /// A shortest path of choices whose last one hits.
     Found(Vec<u32>),

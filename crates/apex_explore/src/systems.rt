@@ -5,7 +5,7 @@ ghost use Rattle.apex_explore.specs.Systems.{GoesTo, Step, step_of};
 use std::alloc::{AllocError, Global};
 
 /// What a choice does in a state.
-#[derive(Debug, Clone, Copy, PartialEq, Eq)]
+#[derive(Clone, Copy, PartialEq, Eq)]
 pub enum Taken {
     /// The choice is not possible there.
     Refused,

@@ -8,7 +8,7 @@ pub trait Watch {
 }
 
 /// Nothing looks on.
-#[derive(Debug, Clone, Copy)]
+#[derive(Clone, Copy)]
 pub struct NoWatch;
 
 impl Watch for NoWatch {

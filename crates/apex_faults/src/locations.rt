@@ -6,7 +6,7 @@ use crate::scanning::{Expression, after_value, from_next, next_expression};
 use apex_words::{Key, Part, Place, Section, Subject};
 
 /// A line and a column of a text, both counted from 1; a column counts characters.
-#[derive(Clone, Copy, Debug, PartialEq, Eq)]
+#[derive(Clone, Copy, PartialEq, Eq)]
 pub struct Location {
     pub line: usize,
     pub column: usize,

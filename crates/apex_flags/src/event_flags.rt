@@ -17,7 +17,7 @@ use apex_types::{
 use std::marker::Model;
 
 /// An event flag as its services see it.
-#[derive(Clone, Copy, Debug)]
+#[derive(Clone, Copy)]
 pub struct EventFlag {
     created: bool,
     up: bool,

@@ -139,7 +139,7 @@ entry_at calls notices stored place item lt =
     ∙ ap Some (get_or-map_places (entry_of calls notices) 0 stored place item some lt ∙ rw z refl)
 
 -- the last one of a list
-last_put : {A : Type 0} (o : Option A) (xs : List A) (x : A) → last_or o (xs ++ x ∷ []) ≡ Some x
+pub last_put : {A : Type 0} (o : Option A) (xs : List A) (x : A) → last_or o (xs ++ x ∷ []) ≡ Some x
 last_put o [] x = refl
 last_put o (y ∷ xs) x = last_put (Some y) xs x
 

@@ -10,7 +10,7 @@ use apex_types::Name;
 use std::alloc::AllocError;
 
 /// The end of a search that meets no fault.
-#[derive(Clone, Copy, Debug, PartialEq, Eq)]
+#[derive(Clone, Copy, PartialEq, Eq)]
 pub enum SearchEnding {
     /// A schedule was found.
     Found,

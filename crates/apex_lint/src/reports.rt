@@ -15,7 +15,7 @@ use apex_words::{Part, Subject, TableFault};
 use std::alloc::{AllocError, Global};
 
 /// How a report is written.
-#[derive(Clone, Copy, Debug, PartialEq, Eq)]
+#[derive(Clone, Copy, PartialEq, Eq)]
 pub enum Form {
     /// A line for each remark: `FILE:LINE:COLUMN: error: TEXT`, or `warning` in place of `error`.
     Lines,
@@ -24,7 +24,7 @@ pub enum Form {
 }
 
 /// What a table's text is found to be.
-#[derive(Clone, Copy, Debug, PartialEq, Eq)]
+#[derive(Clone, Copy, PartialEq, Eq)]
 pub enum Verdict {
     /// A table without a warning.
     Accepted,

@@ -1,7 +1,6 @@
 -- The picture of a run, one column more each time.
-use Rattle.std.proofs.Common.{◌≡◌, ◌∙◌, ◌<◌, List, [], ◌∷◌, ◌++◌, Option, None, Some, refl, sym, ap, arith, get_or, length, subst, append-nil, append_assoc, length-append, inl, inr}
-use Rattle.std.specs.List.{All, last_or}
-use Rattle.std.proofs.Math.Seq.{get_or-append_seam}
+use Rattle.std.proofs.Common.{◌≡◌, ◌∙◌, ◌<◌, List, [], ◌∷◌, ◌++◌, None, Some, refl, sym, ap, arith, length, subst, append-nil, append_assoc, length-append, inl, inr}
+use Rattle.std.specs.List.{last_or}
 use Rattle.std.proofs.lemmas.Bool.{cases_lt}
 use Rattle.apex_types.specs.declared.entries.Event.TheVariants.{Turn, Tick}
 use Rattle.apex_machine.specs.Machine.{Machine, accept, events_of, happen, opening, replay, run, tick, turn}
@@ -13,6 +12,7 @@ use Rattle.apex_moments.specs.Moments.{Column, column_of, columns_from, moment_i
 use Rattle.apex_moments.specs.Terms.{Entry, Event}
 use Rattle.apex_moments.specs.declared.instants.Instant.{Instant}
 use Rattle.apex_moments.proofs.NextInstants.{instant_next, next_now}
+use Rattle.apex_history.proofs.EntriesOf.{last_put}
 
 last_push : (before : Roster) (rosters : List Roster) (roster : Roster)
     → last_roster before (rosters ++ roster ∷ []) ≡ roster
@@ -33,10 +33,6 @@ columns_push table done before (e ∷ entries) (r ∷ rosters) entry roster same
     (columns_push table (done ++ e ∷ []) r entries rosters entry roster (omega (arith, same))
     ∙ ap (λ (l : List Entry). columns_from table (done ++ e ∷ []) r entries rosters
     ++ column_of table l (last_roster r rosters) entry roster ∷ []) (append_assoc done (e ∷ []) entries))
-
-last_put : {A : Type 0} (o : Option A) (xs : List A) (x : A) → last_or o (xs ++ x ∷ []) ≡ Some x
-last_put o [] x = refl
-last_put o (y ∷ xs) x = last_put (Some y) xs x
 
 -- the machine with one entry more and the roster after it
 abbrev pub longer : Machine → Entry → Roster → Machine
@@ -150,16 +146,6 @@ module _ (table : Table) (machine : Machine) (pictured : IsPictured table machin
         after = moment_in table new;
       } ∷ []) same
 
-  -- an event for which there was room has a latest entry
-  pub latest_some : (event : Event) (new : Machine) → length machine.history < table.limit
-      → new ≡ accept table machine event → last_or None new.history ≡ None → ⊥
-  latest_some event new room is none =
-      let (entry, roster, adds) = event_adds table machine event in
-      let whole : new ≡ longer machine entry roster = is ∙ accept-room table machine event room ∙ adds in
-      let some : Some entry ≡ None =
-      sym (last_put None machine.history entry) ∙ ap (λ (m : Machine). last_or None m.history) (sym whole) ∙ none in
-      cc
-
   -- an event adds columns
   accept_more : (event : Event) → (columns : List Column) × (picture table (accept table machine event) ≡ picture table machine ++ columns)
   accept_more event = elim (cases_lt (length machine.history) table.limit) [
@@ -192,21 +178,3 @@ pictured_opening table = record { many = refl; last = refl }
 pub pictured_machine : (table : Table) (machine : Machine) → replay table machine.history ≡ machine → IsPictured table machine
 pictured_machine table machine again =
     subst (IsPictured table) again (pictured_run table (events_of machine.history) (opening table) (pictured_opening table))
-
--- a property of all entries holds of the one that an event adds
-pub latest_holds : (table : Table) (machine new : Machine) (event : Event) (P : Entry → Type 0) (found : Entry)
-    → length machine.history < table.limit → new ≡ accept table machine event
-    → last_or None new.history ≡ Some found → All P new.history → P found
-latest_holds table machine new event P found room is latest all =
-    let (entry, roster, adds) = event_adds table machine event in
-    let whole : new ≡ longer machine entry roster = is ∙ accept-room table machine event room ∙ adds in
-    let some : Some entry ≡ Some found =
-    sym (last_put None machine.history entry) ∙ ap (λ (m : Machine). last_or None m.history) (sym whole) ∙ latest in
-    let same : entry ≡ found = cc in
-    let history : new.history ≡ machine.history ++ found ∷ [] =
-    ap (λ (m : Machine). m.history) whole ∙ ap (λ (e : Entry). machine.history ++ e ∷ []) same in
-    let within : length machine.history < length new.history =
-    omega (arith, ap length history, length-append machine.history (found ∷ [])) in
-    let at : get_or new.history (length machine.history) found ≡ found =
-    ap (λ (l : List Entry). get_or l (length machine.history) found) history ∙ get_or-append_seam machine.history found [] found in
-    subst P at (all (length machine.history) found within)

@@ -26,13 +26,6 @@ pub fn put(text: &mut Vec<u8>, more: &str) -> Result<(), AllocError>
     text.extend_from_slice(more.as_bytes())
 }
 
-/// Puts these bytes.
-pub fn put_bytes(text: &mut Vec<u8>, more: &[u8]) -> Result<(), AllocError>
-    ensures { OnOk result (text.new.items ≡ text.old.items ++ more.now) }
-{
-    text.extend_from_slice(more)
-}
-
 fn put_byte(text: &mut Vec<u8>, byte: u8) -> Result<(), AllocError>
     ensures { OnOk result (text.new.items ≡ text.old.items ++ byte ∷ []) }
 {

@@ -1,6 +1,6 @@
 -- The objects of the status listing, each from its plain parts (this profile): a line for each row.
-use Rattle.std.specs.Prelude.{ℕ, List, [], ◌++◌, Bool, Option, None, Some, codes, decimal}
-use Rattle.apex_objects.specs.Terms.{Message, Mode, Queue, Record, State, Suspender, Wait}
+use Rattle.std.specs.Prelude.{ℕ, List, ◌++◌, Bool, Option, None, Some, codes, decimal}
+use Rattle.apex_objects.specs.Terms.{Message, Mode, Record, State, Suspender, Wait}
 use Rattle.apex_machine.specs.declared.records.Queue.TheVariants as queues
 use Rattle.apex_machine.specs.declared.records.Suspender.TheVariants.{Itself, Other}
 use Rattle.apex_machine.specs.declared.records.Wait.TheVariants as waits
@@ -10,15 +10,6 @@ use Rattle.apex_machine.specs.table.Table.{Table}
 use Rattle.apex_machine.specs.text.Status.{operating_mode_text, state_text, up_text}
 use Rattle.apex_machine.specs.text.Texts.{process_name, semaphore_name, buffer_name, blackboard_name, event_flag_name, mutex_name}
 use Rattle.apex_objects.specs.Parts.{array_text, holding_object, message_string, or_null, process_object, process_part, thing_part}
-
--- the name of the object that has this queue
-abbrev pub object_name : Table → Queue → List ℕ
-object_name table queues.Normal = []
-object_name table (queues.Semaphore s) = semaphore_name table s
-object_name table (queues.Buffer b) = buffer_name table b
-object_name table (queues.Blackboard b) = blackboard_name table b
-object_name table (queues.EventFlag e) = event_flag_name table e
-object_name table (queues.Mutex m) = mutex_name table m
 
 -- `{"time":T}`, in ticks
 abbrev pub time_object : ℕ → List ℕ

@@ -10,9 +10,9 @@ ghost use Rattle.apex_objects.specs.declared.lines.TheConstants.{ELEMENT_ROOM, O
 
 use crate::lines::{ELEMENT_ROOM, ObjectLines, put, put_process, put_thing};
 use crate::messages::put_message;
-use crate::names::{object_name, process_name};
 use apex_configs::Table;
 use apex_machine::{Holding, Queue};
+use apex_names::{object_name, process_name};
 use apex_types::{DeadlineType, Message, Notice, ProcessId, ReturnCode};
 
 /// An element of an array.

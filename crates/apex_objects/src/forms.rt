@@ -1,7 +1,7 @@
 //! The form of what is written.
 
 /// The form of what is written.
-#[derive(Clone, Copy, Debug, PartialEq, Eq)]
+#[derive(Clone, Copy, PartialEq, Eq)]
 pub enum Form {
     /// As lines of text.
     Text,

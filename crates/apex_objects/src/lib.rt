@@ -11,7 +11,6 @@ mod laws;
 mod lines;
 mod listing;
 mod messages;
-mod names;
 mod rows;
 mod texts;
 mod waits;

@@ -7,9 +7,9 @@ ghost use Rattle.apex_machine.specs.text.Texts.{id_text};
 ghost use Rattle.apex_objects.specs.Parts.{or_null, process_part, string_text, thing_part};
 ghost use Rattle.apex_objects.specs.declared.lines.TheConstants.{OBJECTS_ROOM, THING_ROOM};
 
-use crate::names::process_name;
 use apex_configs::Table;
 use apex_json::{MOST_ESCAPE, add_json};
+use apex_names::process_name;
 use apex_types::{Id, MOST_LINE, MOST_NAME, MOST_NOTICES, ProcessId};
 use arrayvec::ArrayVec;
 use itoa::Buffer;

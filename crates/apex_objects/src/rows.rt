@@ -13,10 +13,10 @@ use crate::lines::{
     ELEMENT_ROOM, ObjectLines, put, put_instant, put_number, put_process, put_thing,
 };
 use crate::messages::put_optional_message;
-use crate::names::{object_name, process_name};
 use crate::waits::put_optional_wait;
 use apex_configs::Table;
 use apex_machine::{Queue, Record, Suspender};
+use apex_names::{object_name, process_name};
 use apex_types::{
     BlackboardId, BufferId, CoreId, EventId, MOST_PROCESSES, Message, Mode, MutexId, ProcessId,
     SemaphoreId, State,

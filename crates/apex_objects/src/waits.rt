@@ -7,9 +7,9 @@ ghost use Rattle.apex_objects.specs.declared.lines.TheConstants.{OBJECTS_ROOM, T
 ghost use Rattle.apex_objects.specs.declared.waits.TheConstants.{WAIT_ROOM};
 
 use crate::lines::{ObjectLines, THING_ROOM, put, put_thing};
-use crate::names::object_name;
 use apex_configs::Table;
 use apex_machine::{Queue, Wait};
+use apex_names::object_name;
 use apex_types::Id;
 
 /// The most bytes of a wait.

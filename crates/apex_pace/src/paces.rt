@@ -4,7 +4,7 @@
 pub const USUAL_TURNS: u32 = 8;
 
 /// How fast the cores are and how long work takes (this profile).
-#[derive(Clone, Copy, Debug, PartialEq, Eq)]
+#[derive(Clone, Copy, PartialEq, Eq)]
 pub struct Pace {
     /// The turns that a core has before time may pass while it has a process to run.
     pub turns: u32,

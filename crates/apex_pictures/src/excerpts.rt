@@ -9,7 +9,7 @@ use apex_types::LentEntry;
 pub const MOST_COLUMNS: u32 = 2_000;
 
 /// The side of an extent on which columns are drawn, if it has more than [`MOST_COLUMNS`].
-#[derive(Clone, Copy, Debug, PartialEq, Eq)]
+#[derive(Clone, Copy, PartialEq, Eq)]
 pub enum Side {
     /// The first columns are drawn.
     First,

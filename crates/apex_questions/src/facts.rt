@@ -12,7 +12,7 @@ use std::marker::Model;
 pub const MOST_FACTS: usize = 16;
 
 /// A fact of an entry.
-#[derive(Clone, Copy, Debug, PartialEq, Eq)]
+#[derive(Clone, Copy, PartialEq, Eq)]
 pub enum Fact {
     /// A process missed its deadline.
     Missed,

@@ -10,7 +10,7 @@ pub(crate) const MOST_SENTENCE: usize = 96;
 
 /// A guard of a service's row. The first one that holds refuses the call with its code (this
 /// profile).
-#[derive(Clone, Copy, Debug, PartialEq, Eq)]
+#[derive(Clone, Copy)]
 pub enum Guard {
     /// The mode is NORMAL, and the service is of the start of a partition.
     ModeIsNormal,

@@ -7,7 +7,7 @@ use crate::guards::Guard;
 use apex_types::{Mode, Timeout};
 
 /// Why the caller of a service begins to wait (this profile).
-#[derive(Clone, Copy, Debug, PartialEq, Eq)]
+#[derive(Clone, Copy)]
 pub enum WaitCause {
     /// The value of the semaphore is 0.
     SemaphoreIsAtZero,
@@ -30,7 +30,7 @@ pub enum WaitCause {
 }
 
 /// The guard or the rule that decides the reply of an event.
-#[derive(Clone, Copy, Debug, PartialEq, Eq)]
+#[derive(Clone, Copy)]
 pub enum Rule {
     /// This is the first guard of the call's row that holds.
     Refused(Guard),

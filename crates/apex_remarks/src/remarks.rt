@@ -17,7 +17,7 @@ use std::alloc::{AllocError, Global};
 use std::str;
 
 /// How much a remark matters.
-#[derive(Clone, Copy, Debug, PartialEq, Eq)]
+#[derive(Clone, Copy, PartialEq, Eq)]
 pub enum Severity {
     /// The table is refused.
     Error,

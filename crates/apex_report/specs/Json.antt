@@ -5,13 +5,12 @@ use Rattle.apex_json.specs.Strings.{json_text}
 use Rattle.apex_calls.specs.Catalogue.{row_of}
 use Rattle.apex_machine.specs.declared.records.Queue.TheVariants as queues
 use Rattle.apex_machine.specs.table.Table.{Table}
-use Rattle.apex_machine.specs.text.Texts.{process_name}
+use Rattle.apex_machine.specs.text.Texts.{object_name, process_name}
 use Rattle.apex_report.specs.Cores.{busy_percent}
 use Rattle.apex_report.specs.Jobs.{response}
 use Rattle.apex_report.specs.Ownerships.{held_ticks}
 use Rattle.apex_report.specs.Report.{Report, report}
 use Rattle.apex_report.specs.Terms.{CoreFigures, Entry, JobFigures, ObjectFigures, Ownership, ProcessFigures, Queue, Refusals, ServiceFigures}
-use Rattle.apex_report.specs.Texts.{object_name}
 
 -- a name, as a string
 abbrev pub string_text : List ℕ → List ℕ

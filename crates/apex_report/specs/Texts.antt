@@ -4,7 +4,7 @@ use Rattle.apex_calls.specs.Catalogue.{row_of}
 use Rattle.apex_machine.specs.table.Table.{Table}
 use Rattle.apex_machine.specs.text.Status.{history_line, instant_text, optional_text}
 use Rattle.apex_machine.specs.declared.records.Queue.TheVariants as queues
-use Rattle.apex_machine.specs.text.Texts.{blackboard_name, buffer_name, event_flag_name, mutex_name, process_name, semaphore_name}
+use Rattle.apex_machine.specs.text.Texts.{object_name, process_name}
 use Rattle.apex_report.specs.Cores.{busy_percent}
 use Rattle.apex_report.specs.Jobs.{response}
 use Rattle.apex_report.specs.Refusals.{some_refused}
@@ -93,15 +93,6 @@ kind_text (queues.Buffer b) = codes "buffer "
 kind_text (queues.Blackboard b) = codes "blackboard "
 kind_text (queues.EventFlag e) = codes "event "
 kind_text (queues.Mutex m) = codes "mutex "
-
--- the name that the table gives an object
-abbrev pub object_name : Table → Queue → List ℕ
-object_name table queues.Normal = []
-object_name table (queues.Semaphore s) = semaphore_name table s
-object_name table (queues.Buffer b) = buffer_name table b
-object_name table (queues.Blackboard b) = blackboard_name table b
-object_name table (queues.EventFlag e) = event_flag_name table e
-object_name table (queues.Mutex m) = mutex_name table m
 
 -- the count of a level, and the number of the first entry that has it
 abbrev pub count_text : Level → List ℕ

@@ -12,12 +12,12 @@ use crate::job_figures::JobFigures;
 use crate::jobs::Job;
 use crate::lines::{Line, put, put_number};
 use crate::members::{Member, put_members, put_string};
-use crate::names::process_name;
 use crate::processes::ProcessFigures;
 use crate::refusals::Refusals;
 use crate::services::ServiceFigures;
 use apex_calls::row_of;
 use apex_configs::Table;
+use apex_names::process_name;
 
 /// The most bytes in a line before an object.
 pub(crate) const FRONT: usize = 2;

@@ -11,7 +11,6 @@ mod json_lines;
 mod json_printing;
 mod lines;
 mod members;
-mod names;
 mod object_json;
 mod object_lines;
 mod objects;

@@ -9,11 +9,11 @@ ghost use Rattle.apex_report.specs.Ownerships.{held_ticks};
 use crate::json_lines::Figures;
 use crate::lines::{Line, put};
 use crate::members::{Member, put_members, put_string};
-use crate::names::{object_name, process_name};
 use crate::objects::{Level, ObjectFigures};
 use crate::ownerships::Ownership;
 use apex_configs::Table;
 use apex_machine::Queue;
+use apex_names::{object_name, process_name};
 
 /// The kind of an object.
 fn kind_name(queue: &Queue) -> &'static str

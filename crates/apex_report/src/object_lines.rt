@@ -3,16 +3,16 @@ ghost use Rattle.std.specs.Prelude.{◌≡◌, ◌+◌, ◌≤◌, ◌++◌, len
 ghost use Rattle.arrayvec.specs.ArrayVec.{array_vec_len};
 ghost use Rattle.apex_types.specs.declared.limits.TheConstants.{MOST_NAME};
 ghost use Rattle.apex_machine.specs.text.Status.{optional_text};
-ghost use Rattle.apex_machine.specs.text.Texts.{process_name};
+ghost use Rattle.apex_machine.specs.text.Texts.{object_name, process_name};
 ghost use Rattle.apex_report.specs.declared.lines.TheConstants.{LINE_ROOM};
-ghost use Rattle.apex_report.specs.Texts.{content_part, count_text, greatest_part, held_end_text, held_text, holder_text, kind_text, longest_part, number_text, object_line, object_name, ownership_part, queue_part};
+ghost use Rattle.apex_report.specs.Texts.{content_part, count_text, greatest_part, held_end_text, held_text, holder_text, kind_text, longest_part, number_text, object_line, ownership_part, queue_part};
 
 use crate::lines::{Line, put, put_bytes, put_long_figure, put_long_number, put_number};
-use crate::names::{object_name, process_name};
 use crate::objects::{Level, ObjectFigures};
 use crate::ownerships::Ownership;
 use apex_configs::Table;
 use apex_machine::Queue;
+use apex_names::{object_name, process_name};
 use apex_types::ProcessId;
 
 /// The kind of an object, as its line begins.

@@ -1,7 +1,7 @@
 //! The axis of a picture.
 
 /// The axis along which the columns of a picture stand.
-#[derive(Clone, Copy, Debug, PartialEq, Eq)]
+#[derive(Clone, Copy, PartialEq, Eq)]
 pub enum Axis {
     /// By the numbers of their entries: they stand side by side.
     Entries,

@@ -12,7 +12,7 @@ use apex_types::MOST_ENTRIES;
 use std::alloc::{AllocError, Global};
 
 /// The reason why a schedule with groups was not read.
-#[derive(Clone, Copy, Debug, PartialEq, Eq)]
+#[derive(Clone, Copy, PartialEq, Eq)]
 pub enum ScheduleFault {
     /// The word at this place is neither an item nor a bracket, its bracket closes no group, or the
     /// text ends there in a group.
@@ -24,7 +24,7 @@ pub enum ScheduleFault {
 }
 
 /// A place in the text of a schedule.
-#[derive(Clone, Copy, Debug, PartialEq, Eq)]
+#[derive(Clone, Copy, PartialEq, Eq)]
 pub struct Place {
     /// The number of the item there, from 1; at a bracket or at the text's end, that of the next
     /// item.

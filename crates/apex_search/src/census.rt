@@ -24,7 +24,7 @@ pub struct Finding {
 }
 
 /// How a search for all facts ended.
-#[derive(Clone, Copy, Debug, PartialEq, Eq)]
+#[derive(Clone, Copy, PartialEq, Eq)]
 pub enum End {
     /// No schedule leads to one of the others, and this many states are reached in all.
     Closed { states: usize },

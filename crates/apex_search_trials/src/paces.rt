@@ -28,7 +28,7 @@ script = ["work 3", "GET_TIME", "PERIODIC_WAIT"]
 "#;
 
 /// A turn of the core, or a tick.
-#[derive(Clone, Copy, Debug, PartialEq, Eq)]
+#[derive(Clone, Copy, PartialEq, Eq)]
 enum Made {
     Turn,
     Tick(u32),

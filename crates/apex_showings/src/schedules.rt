@@ -7,7 +7,7 @@ use apex_schedules::{Item, Place, ScheduleFault, read_grouped};
 use std::alloc::Global;
 
 /// The reason why a text is no schedule.
-#[derive(Clone, Copy, Debug, PartialEq, Eq)]
+#[derive(Clone, Copy, PartialEq, Eq)]
 pub enum Reason {
     /// A word is neither an item nor a bracket, its bracket closes no group, or the text ends in a
     /// group.
@@ -17,7 +17,7 @@ pub enum Reason {
 }
 
 /// A fault of a schedule's text, with its place.
-#[derive(Clone, Copy, Debug, PartialEq, Eq)]
+#[derive(Clone, Copy, PartialEq, Eq)]
 pub struct BadSchedule {
     pub reason: Reason,
     /// The number of the item, from 1.

@@ -42,7 +42,7 @@ pub enum Picture {
 }
 
 /// A listing of a run.
-#[derive(Clone, Copy, Debug, PartialEq, Eq)]
+#[derive(Clone, Copy, PartialEq, Eq)]
 pub enum Listing {
     /// The entries of its history.
     Lines(Form),

@@ -31,7 +31,7 @@ pub enum PartitionCall {
 }
 
 /// The place of a step in its list, counted from 0.
-#[derive(Clone, Copy, Debug, PartialEq, Eq)]
+#[derive(Clone, Copy, PartialEq, Eq)]
 pub enum Origin {
     /// In the init list.
     Init(u16),
@@ -40,7 +40,7 @@ pub enum Origin {
 }
 
 /// A message, by the step that gives it: the table keeps its bytes, as the step's literal.
-#[derive(Clone, Copy, Debug, PartialEq, Eq)]
+#[derive(Clone, Copy, PartialEq, Eq)]
 pub struct Message {
     pub origin: Origin,
     /// The number of its bytes, 0 to 64.

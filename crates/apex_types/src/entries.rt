@@ -11,7 +11,7 @@ use std::marker::Model;
 use thiserror::Error;
 
 /// The return codes of APEX (ARINC 653 Part 1), in the order of their numbers.
-#[derive(Clone, Copy, Debug, PartialEq, Eq)]
+#[derive(Clone, Copy, PartialEq, Eq)]
 pub enum ReturnCode {
     NoError,
     NoAction,
@@ -23,7 +23,7 @@ pub enum ReturnCode {
 }
 
 /// An event of a partition, which is one atomic step.
-#[derive(Clone, Copy, Debug, PartialEq, Eq)]
+#[derive(Clone, Copy, PartialEq, Eq)]
 pub enum Event {
     /// A turn of a core.
     Turn(CoreId),
@@ -49,7 +49,7 @@ pub enum Caller {
 }
 
 /// The reply to a call, or the result of an idle turn or a tick.
-#[derive(Clone, Copy, Debug, PartialEq, Eq)]
+#[derive(Clone, Copy, PartialEq, Eq)]
 pub enum Reply {
     Code(ReturnCode),
     /// The value that the caller asked for: a time in ticks, an id or a core.

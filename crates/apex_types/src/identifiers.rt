@@ -5,7 +5,7 @@ ghost use Rattle.apex_types.specs.declared.limits.TheConstants.{MOST_CORES};
 use std::marker::{Model, PhantomData};
 
 /// A core of the partition, by its number from 0 to 7.
-#[derive(Clone, Copy, Debug, PartialEq, Eq)]
+#[derive(Clone, Copy, PartialEq, Eq)]
 pub struct CoreId {
     number: u8,
 }
@@ -44,7 +44,7 @@ impl CoreId {
 /// A thing of one kind, by its place in the table.
 ///
 /// In contracts it is the place counted from 0; users see [`Id::number`].
-#[derive(Clone, Copy, Debug, PartialEq, Eq)]
+#[derive(Clone, Copy, PartialEq, Eq)]
 pub struct Id<K> {
     place: u8,
     kind: PhantomData<K>,
@@ -88,7 +88,7 @@ impl<K> Id<K> {
 }
 
 /// The kind of an id of a process.
-#[derive(Clone, Copy, Debug, PartialEq, Eq)]
+#[derive(Clone, Copy, PartialEq, Eq)]
 pub struct ProcessKind;
 
 /// The kind of an id of a semaphore.

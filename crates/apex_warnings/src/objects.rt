@@ -9,7 +9,7 @@ use apex_types::{BlackboardId, BufferId, EventId, MutexId, SemaphoreId};
 use apex_words::Section;
 
 /// The objects of one kind.
-#[derive(Clone, Copy, Debug, PartialEq, Eq)]
+#[derive(Clone, Copy)]
 pub enum Group {
     Semaphores,
     Buffers,

@@ -10,7 +10,7 @@ use apex_machine::Attributes;
 use apex_types::{Call, ProcessId, Span, TimeCall};
 
 /// What a process can hardly be meant to be (this profile).
-#[derive(Clone, Copy, Debug, PartialEq, Eq)]
+#[derive(Clone, Copy)]
 pub enum ProcessWarning {
     /// Its script is empty.
     EmptyScript,

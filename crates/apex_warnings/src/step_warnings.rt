@@ -14,7 +14,7 @@ use apex_types::{
 };
 
 /// What a step can hardly be meant to do (this profile).
-#[derive(Clone, Copy, Debug, PartialEq, Eq)]
+#[derive(Clone, Copy)]
 pub enum StepWarning {
     /// Its message is empty, or longer than those of its buffer or blackboard.
     MessageRefused,

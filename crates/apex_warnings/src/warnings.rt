@@ -13,7 +13,7 @@ use std::alloc::{AllocError, Global};
 
 /// A warning about a table: what it can hardly mean, and where (this profile). Its text has the
 /// place and the reason; processes, steps and objects are counted from 1 there.
-#[derive(Clone, Copy, PartialEq, Eq)]
+#[derive(Clone, Copy)]
 pub enum Warning {
     Process(ProcessWarning, ProcessId),
     Step(StepWarning, Origin),

@@ -11,7 +11,7 @@ use std::error::Error;
 use std::fmt;
 
 /// A section of the table's text.
-#[derive(Clone, Copy, Debug, PartialEq, Eq)]
+#[derive(Clone, Copy, PartialEq, Eq)]
 pub enum Section {
     Top,
     Process,
@@ -51,7 +51,7 @@ impl fmt::Display for Section {
 }
 
 /// The place of a fault: an entry of a section, counted from 1, or 0 for the section as a whole.
-#[derive(Clone, Copy, Debug, PartialEq, Eq)]
+#[derive(Clone, Copy, PartialEq, Eq)]
 pub struct Place {
     pub section: Section,
     pub number: u32,
@@ -89,7 +89,7 @@ impl Place {
 
 /// The reason why a text is no table: the first of its faults in the order of the checks with what
 /// it is about, or want of memory.
-#[derive(Clone, Copy, Debug, PartialEq, Eq)]
+#[derive(Clone, Copy, PartialEq, Eq)]
 pub enum TableFault {
     /// A growth was refused.
     Memory,
@@ -155,6 +155,13 @@ impl fmt::Display for TableFault {
                 write!(f, "{word} in {place}")
             }
         }
+    }
+}
+
+/// A programmer reads the fault's text, too.
+impl fmt::Debug for TableFault {
+    fn fmt<W: fmt::Write>(&self, f: &mut fmt::Formatter<W>) -> fmt::Result {
+        fmt::Display::fmt(self, f)
     }
 }
 

@@ -5,7 +5,7 @@ ghost use Rattle.apex_words.specs.Fault.{key_word};
 use crate::fault::Section;
 
 /// A key of the table's top, or of an entry.
-#[derive(Clone, Copy, Debug, PartialEq, Eq)]
+#[derive(Clone, Copy, PartialEq, Eq)]
 pub enum Key {
     Profile,
     Cores,

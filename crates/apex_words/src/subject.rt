@@ -6,7 +6,7 @@ use crate::fault::Place;
 use crate::key::Key;
 
 /// The part of a section or of an entry that a fault is about.
-#[derive(Clone, Copy, Debug, PartialEq, Eq)]
+#[derive(Clone, Copy, PartialEq, Eq)]
 pub enum Part {
     /// The section or the entry as a whole.
     Whole,
@@ -23,7 +23,7 @@ pub enum Part {
 }
 
 /// What a fault is about: a place of the table's text, and the part of it that is at fault.
-#[derive(Clone, Copy, Debug, PartialEq, Eq)]
+#[derive(Clone, Copy, PartialEq, Eq)]
 pub struct Subject {
     pub place: Place,
     pub part: Part,

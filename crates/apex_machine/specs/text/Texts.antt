@@ -1,7 +1,8 @@
 -- The texts of ids, of names and of messages (this profile).
 use Rattle.std.specs.Prelude.{ℕ, ◌+◌, ◌/◌, ◌%◌, false, List, [], ◌∷◌, flat_map, codes, decimal}
 use Rattle.std.specs.Fmt.{digit_glyph}
-use Rattle.apex_machine.specs.Terms.{Message}
+use Rattle.apex_machine.specs.Terms.{Message, Queue}
+use Rattle.apex_machine.specs.declared.records.Queue.TheVariants as queues
 use Rattle.apex_machine.specs.table.Table.{Table, process_config, semaphore_config, buffer_config, blackboard_config, event_flag_config, mutex_config, message_bytes}
 
 -- the id of a process as users see it: its place in the table, counted from 1
@@ -31,6 +32,15 @@ event_flag_name table e = (event_flag_config table e).name
 -- the name that the table gives a mutex
 abbrev pub mutex_name : Table → ℕ → List ℕ
 mutex_name table m = (mutex_config table m).name
+
+-- the name that the table gives the object that has this queue
+abbrev pub object_name : Table → Queue → List ℕ
+object_name table queues.Normal = []
+object_name table (queues.Semaphore s) = semaphore_name table s
+object_name table (queues.Buffer b) = buffer_name table b
+object_name table (queues.Blackboard b) = blackboard_name table b
+object_name table (queues.EventFlag e) = event_flag_name table e
+object_name table (queues.Mutex m) = mutex_name table m
 
 -- a byte as two digits, 0 to 9 and a to f
 abbrev pub byte_text : ℕ → List ℕ

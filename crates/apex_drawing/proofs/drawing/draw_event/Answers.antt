@@ -21,7 +21,8 @@ use Rattle.apex_drawing.specs.Pages.{pending}
 use Rattle.apex_drawing.specs.Pictures.{column_text}
 use Rattle.apex_drawing.specs.Styles.{Follows}
 use Rattle.apex_drawing.proofs.Drawn.{one_column}
-use Rattle.apex_drawing.proofs.Coursed.{goes_once, last_holds, last_put, next, sound_replay, time_within}
+use Rattle.apex_drawing.proofs.Coursed.{goes_once, last_holds, next, sound_replay, time_within}
+use Rattle.apex_history.proofs.EntriesOf.{last_put}
 use Rattle.apex_drawing.proofs.Followed.{follow_fits, follow_many}
 use Rattle.apex_drawing.proofs.drawing.draw_event.Goals as goal
 

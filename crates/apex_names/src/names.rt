@@ -1,15 +1,14 @@
 //! The names that a table gives.
 ghost use Rattle.std.specs.Prelude.{◌≡◌, ◌≤◌, length};
 ghost use Rattle.apex_types.specs.declared.limits.TheConstants.{MOST_NAME};
-ghost use Rattle.apex_machine.specs.text.Texts.{process_name};
-ghost use Rattle.apex_objects.specs.Rows.{object_name};
+ghost use Rattle.apex_machine.specs.text.Texts.{object_name, process_name};
 
 use apex_configs::Table;
 use apex_machine::Queue;
 use apex_types::ProcessId;
 
 /// The name of a process; no byte if there is no such process.
-pub(crate) fn process_name(table: &Table, process: ProcessId) -> &[u8]
+pub fn process_name(table: &Table, process: ProcessId) -> &[u8]
     ensures value { result.now ≡ process_name table.now process }
     ensures short { length result.now ≤ MOST_NAME }
 {
@@ -20,8 +19,8 @@ pub(crate) fn process_name(table: &Table, process: ProcessId) -> &[u8]
     }
 }
 
-/// The name of an object; no byte if there is no such object.
-pub(crate) fn object_name<'a>(table: &'a Table, queue: &Queue) -> &'a [u8]
+/// The name of the object that has this queue; no byte if there is no such object.
+pub fn object_name<'a>(table: &'a Table, queue: &Queue) -> &'a [u8]
     ensures value { result.now ≡ object_name table.entry.now queue.now }
     ensures short { length result.now ≤ MOST_NAME }
 {
