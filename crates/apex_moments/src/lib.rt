@@ -8,7 +8,6 @@ mod instants;
 mod kinds;
 mod laws;
 mod moments;
-mod names;
 mod texts;
 mod words;
 
@@ -17,9 +16,8 @@ pub use instants::Instant;
 pub use kinds::{Kind, content_of, displayed_on, raised_of, value_of};
 pub use laws::{columns_say_entries, moments_are_in_order, texts_are_read_back};
 pub use moments::{CORES, Cell, Moment, is_process, moment_in, running_at, running_of, state_of};
-pub use names::{blackboard_name, buffer_name, event_flag_name, mutex_name, semaphore_name};
 pub use texts::{Part, put, put_all, put_number, put_xml};
 pub use words::{
-    code_word, deadline_word, id_part, name_of, notice_word, profile_number, put_object, put_wait,
+    code_word, deadline_word, id_part, notice_word, profile_number, put_object, put_wait,
     state_word,
 };

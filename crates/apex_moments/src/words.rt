@@ -1,16 +1,14 @@
 //! The words for states, waits and notices.
 ghost use Rattle.std.specs.Prelude.{◌≡◌, ◌≤◌, ◌++◌, length, OnOk};
-ghost use Rattle.apex_types.specs.declared.limits.TheConstants.{MOST_NAME};
-ghost use Rattle.apex_machine.specs.text.Texts.{id_text, process_name};
+ghost use Rattle.apex_machine.specs.text.Texts.{id_text};
 ghost use Rattle.apex_moments.specs.Texts.{part_text};
 ghost use Rattle.apex_calls.specs.Lines.{code_text, deadline_text};
 ghost use Rattle.apex_machine.specs.text.Status.{state_text, wait_text};
 ghost use Rattle.apex_moments.specs.Words.{notice_word, profile_number};
 
 use crate::texts::{Part, put, put_number};
-use apex_configs::Table;
 use apex_machine::{Profile, Wait};
-use apex_types::{DeadlineType, Id, Notice, ProcessId, ReturnCode, State};
+use apex_types::{DeadlineType, Id, Notice, ReturnCode, State};
 use std::alloc::AllocError;
 
 /// The word for a state.
@@ -71,18 +69,6 @@ pub fn profile_number(profile: Profile) -> u64
     match profile {
         Profile::One => 1,
         Profile::Two => 2,
-    }
-}
-
-/// The name of a process; no byte if there is no such process.
-pub fn name_of(table: &Table, process: ProcessId) -> &[u8]
-    ensures value { result.now ≡ process_name table.now process }
-    ensures short { length result.now ≤ MOST_NAME }
-{
-    if process.place() < table.process_count() {
-        table.process(process).name().as_bytes()
-    } else {
-        &[]
     }
 }
 

@@ -4,5 +4,8 @@
 mod names;
 mod processes;
 
-pub use names::{object_name, process_name};
+pub use names::{
+    blackboard_name, buffer_name, event_flag_name, mutex_name, object_name, process_name,
+    semaphore_name,
+};
 pub use processes::process_of;

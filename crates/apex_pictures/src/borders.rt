@@ -9,7 +9,8 @@ use crate::frames::Frame;
 use crate::marks::Mark;
 use crate::rows::Selection;
 use apex_configs::Table;
-use apex_moments::{Part, id_part, name_of, put, put_all};
+use apex_moments::{Part, id_part, put, put_all};
+use apex_names::process_name;
 use apex_types::{CoreId, ProcessId};
 use std::alloc::AllocError;
 
@@ -47,7 +48,7 @@ fn put_label(
             Part::Plain("'>"),
             id_part(process),
             Part::Plain(" "),
-            Part::Xml(name_of(table, process)),
+            Part::Xml(process_name(table, process)),
             Part::Plain("</text>\n"),
         ],
     )

@@ -11,7 +11,7 @@ use crate::rows::{ROW, Rows};
 use crate::svg::{MOST_CALL, bare_line};
 use apex_configs::Table;
 use apex_dispatch::Kernel;
-use apex_moments::name_of;
+use apex_names::process_name;
 use apex_scales::Axis;
 use apex_store::Store;
 use apex_types::{CoreId, ProcessId};
@@ -71,7 +71,7 @@ fn longest_name(table: &Table) -> u32
 {
     let mut longest = 0;
     for place in 0..table.process_count() {
-        let name = name_of(table, ProcessId::at(place as u8));
+        let name = process_name(table, ProcessId::at(place as u8));
         longest = longest.max(name.len());
     }
     longest.min(32) as u32

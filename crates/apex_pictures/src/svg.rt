@@ -10,9 +10,10 @@ use apex_configs::Table;
 use apex_history::{Lines, NextSteps, put_line};
 use apex_machine::Holding;
 use apex_moments::{
-    Cell, Moment, Part, id_part, name_of, notice_word, put, put_all, put_object, put_wait, put_xml,
+    Cell, Moment, Part, id_part, notice_word, put, put_all, put_object, put_wait, put_xml,
     state_word,
 };
+use apex_names::process_name;
 use apex_types::{Caller, LentEntry, Notice, ProcessId, Who};
 use std::alloc::AllocError;
 
@@ -298,7 +299,7 @@ fn put_state(
             Part::Plain("' height='16'><title>"),
             id_part(process),
             Part::Plain(" "),
-            Part::Xml(name_of(table, process)),
+            Part::Xml(process_name(table, process)),
             Part::Plain(" "),
             Part::Plain(state_word(cell.state)),
         ],

@@ -45,14 +45,14 @@ fn without_caller(rule: Rule) -> Reason
 }
 
 /// Work that the core has begun ends.
-fn ended_reason(open: &OpenWork) -> Reason
-    ensures { result ≡ ended_reason open.now }
+fn ended_reason(begun: &OpenWork) -> Reason
+    ensures { result ≡ ended_reason begun.now }
 {
     Reason {
-        caller: Caller::Process(open.work.process),
-        call: Some(Call::Work(open.work.amount)),
+        caller: Caller::Process(begun.work.process),
+        call: Some(Call::Work(begun.work.amount)),
         step: None,
-        rule: if open.unbroken {
+        rule: if begun.unbroken {
             Rule::WorkWasKept
         } else {
             Rule::WorkWasBroken
@@ -132,8 +132,8 @@ fn turn_reason<S: Store>(table: &Table, situation: &Situation<S>, core: CoreId) 
     ensures { result ≡ reasons.reason_of table.now (situation_in situation.now) (Turn core) }
 {
     table.lawful();
-    if let Some(open) = situation.work(core) {
-        return ended_reason(&open);
+    if let Some(begun) = situation.work(core) {
+        return ended_reason(&begun);
     }
     let (store, objects) = (situation.store(), situation.objects());
     if let Some(call) = situation.due_call(table, core) {

@@ -2,7 +2,6 @@
 ghost use Rattle.std.specs.Prelude.{◌≡◌, ◌+◌, ◌≤◌, ◌++◌, codes, length, decimal};
 ghost use Rattle.arrayvec.specs.ArrayVec.{array_vec_len};
 ghost use Rattle.apex_calls.specs.Lines.{code_text};
-ghost use Rattle.apex_machine.specs.text.Texts.{process_name};
 ghost use Rattle.apex_reasons.specs.Texts.{actor_text, cause_text, head_of, reason_text, step_text, words_of};
 ghost use Rattle.apex_reasons.specs.declared.guards.TheConstants.{MOST_SENTENCE};
 ghost use Rattle.apex_reasons.specs.declared.texts.TheConstants.{ACTOR_ROOM, TEXT_ROOM};
@@ -12,7 +11,8 @@ use crate::guards::MOST_SENTENCE;
 use crate::reasons::Reason;
 use crate::rules::{Rule, WaitCause};
 use apex_configs::Table;
-use apex_types::{Caller, MOST_NAME, ProcessId, ReturnCode};
+use apex_names::process_name;
+use apex_types::{Caller, MOST_NAME, ReturnCode};
 use arrayvec::ArrayVec;
 use itoa::Buffer;
 
@@ -54,18 +54,6 @@ fn code_head(code: ReturnCode) -> &'static str
     }
 }
 
-/// The name that the table gives the process; empty past the end of the table.
-fn name_of(table: &Table, process: ProcessId) -> &[u8]
-    ensures value { result.now ≡ process_name table.now process }
-    ensures short { length result.now ≤ MOST_NAME }
-{
-    if process.place() < table.process_count() {
-        table.process(process).name().as_bytes()
-    } else {
-        &[]
-    }
-}
-
 /// Puts the place of a step, counted from 0.
 fn put_step(text: &mut ReasonText, step: Option<usize>)
     requires { array_vec_len text.old + 26 ≤ TEXT_ROOM }
@@ -86,7 +74,7 @@ fn put_actor(text: &mut ReasonText, table: &Table, caller: &Caller, step: Option
     ensures short { array_vec_len text.new ≤ array_vec_len text.old + ACTOR_ROOM }
 {
     match caller {
-        Caller::Process(process) => put(text, name_of(table, *process)),
+        Caller::Process(process) => put(text, process_name(table, *process)),
         Caller::Init => put(text, b"init"),
         Caller::Nobody => return,
     }

@@ -12,7 +12,7 @@ use crate::pieces::{Piece, add_text};
 use apex_configs::Table;
 use apex_json::MOST_ESCAPE;
 use apex_machine::Wait;
-use apex_moments::{blackboard_name, buffer_name, event_flag_name, mutex_name, semaphore_name};
+use apex_names::{blackboard_name, buffer_name, event_flag_name, mutex_name, semaphore_name};
 use apex_types::{BlackboardId, BufferId, EventId, MOST_NAME, MutexId, SemaphoreId, State};
 
 /// The most bytes before the name of the object for which a process waits.

@@ -14,7 +14,8 @@ use crate::pieces::{Piece, TRACK, add_text};
 use crate::stamps::Timed;
 use crate::trace::{BEGIN, NAME, Spot, add_begin, add_ended, is_same_process, mutex_spot};
 use apex_configs::Table;
-use apex_moments::{Part, id_part, mutex_name, name_of, put_all};
+use apex_moments::{Part, id_part, put_all};
+use apex_names::{mutex_name, process_name};
 use apex_store::Store;
 use apex_types::{MutexId, ProcessId};
 use std::alloc::AllocError;
@@ -63,7 +64,7 @@ fn add_owner(piece: &mut Piece, table: &Table, spot: Spot, stamp: &Timed, owner:
 {
     if let Some(process) = owner {
         add_begin(piece, spot, stamp);
-        add_escaped(piece, name_of(table, *process));
+        add_escaped(piece, process_name(table, *process));
         add_text(piece, *b"\"}");
     }
 }

@@ -4,7 +4,8 @@ ghost use Rattle.apex_types.specs.declared.limits.TheConstants.{MOST_NAME};
 ghost use Rattle.apex_traces.specs.Counters.{back_text, front_text, object_name};
 
 use apex_configs::Table;
-use apex_moments::{Kind, blackboard_name, buffer_name, event_flag_name, semaphore_name};
+use apex_moments::Kind;
+use apex_names::{blackboard_name, buffer_name, event_flag_name, semaphore_name};
 use apex_types::{BlackboardId, BufferId, EventId, SemaphoreId};
 
 /// The name of the object of a kind at a place; no byte if there is no such object.

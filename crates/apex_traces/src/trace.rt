@@ -31,9 +31,9 @@ use apex_configs::Table;
 use apex_dispatch::Situation;
 use apex_json::MOST_ESCAPE;
 use apex_moments::{
-    CORES, Part, code_word, deadline_word, id_part, name_of, profile_number, put, put_all,
-    running_at,
+    CORES, Part, code_word, deadline_word, id_part, profile_number, put, put_all, running_at,
 };
+use apex_names::process_name;
 use apex_store::Store;
 use apex_types::{CoreId, LentEntry, MOST_NAME, MOST_NOTICES, MutexId, Notice, ProcessId};
 use std::alloc::AllocError;
@@ -79,7 +79,7 @@ fn put_process_name(text: &mut Vec<u8>, table: &Table, process: ProcessId) -> Re
             Part::Plain(",\n{\"ph\":\"M\",\"pid\":2,\"tid\":"),
             id_part(process),
             Part::Plain(",\"name\":\"thread_name\",\"args\":{\"name\":\""),
-            Part::Json(name_of(table, process)),
+            Part::Json(process_name(table, process)),
             Part::Plain("\"}},\n{\"ph\":\"M\",\"pid\":2,\"tid\":"),
             id_part(process),
             Part::Plain(",\"name\":\"thread_sort_index\",\"args\":{\"sort_index\":"),
@@ -194,7 +194,7 @@ fn add_run_name(piece: &mut Piece, table: &Table, process: ProcessId)
 {
     add_track(piece, process.number());
     add_text(piece, *b" ");
-    add_escaped(piece, name_of(table, process));
+    add_escaped(piece, process_name(table, process));
     add_text(piece, *b"\"}");
 }
 

@@ -9,8 +9,8 @@ ghost use Rattle.apex_waves.specs.declared.sheets.TheConstants.{SHEET_ROOM};
 use crate::sheets::Sheet;
 use crate::signals::Signal;
 use apex_configs::Table;
-use apex_moments::{
-    blackboard_name, buffer_name, event_flag_name, mutex_name, name_of, semaphore_name,
+use apex_names::{
+    blackboard_name, buffer_name, event_flag_name, mutex_name, process_name, semaphore_name,
 };
 use apex_types::MOST_NAME;
 use itoa::Buffer;
@@ -88,7 +88,7 @@ pub(crate) fn put_signal_name(sheet: &mut Sheet, table: &Table, signal: &Signal)
             sheet.put("core");
             put_number(sheet, u64::from(core.number()));
         }
-        Signal::Process(process) => put_name(sheet, name_of(table, *process)),
+        Signal::Process(process) => put_name(sheet, process_name(table, *process)),
         Signal::Semaphore(semaphore) => put_name(sheet, semaphore_name(table, *semaphore)),
         Signal::Buffer(buffer) => put_name(sheet, buffer_name(table, *buffer)),
         Signal::Blackboard(blackboard) => put_name(sheet, blackboard_name(table, *blackboard)),

@@ -13,7 +13,8 @@ use crate::sheets::Sheet;
 use crate::signals::{MOST_SIGNALS, Signal};
 use apex_configs::Table;
 use apex_dispatch::Kernel;
-use apex_moments::{name_of, state_word};
+use apex_moments::state_word;
+use apex_names::process_name;
 use apex_store::Store;
 
 /// The most bytes of a level.
@@ -43,7 +44,7 @@ fn put_level(sheet: &mut Sheet, table: &Table, level: &Level)
         Level::Process(None) => sheet.put("s(none)"),
         Level::Process(Some(process)) => {
             sheet.put("s");
-            put_name(sheet, name_of(table, *process));
+            put_name(sheet, process_name(table, *process));
         }
         Level::Count(count) => {
             sheet.put("r");
