@@ -3,7 +3,8 @@ ghost use Rattle.std.specs.Prelude.{◌≡◌, ◌<◌, ◌^◌, length, slice_i
 ghost use Rattle.apex_types.specs.declared.limits.TheConstants.{MOST_OWNED};
 ghost use Rattle.apex_forms.specs.declared.records.TheConstants.{RECORD_WORDS};
 ghost use Rattle.apex_forms.specs.Forms.{with_moments};
-ghost use Rattle.apex_forms.specs.Records.{FitsRecord, IsCoreWord, is_created_in, owned_in, record_from, record_words};
+ghost use Rattle.apex_forms.specs.Records.{FitsRecord, IsCoreWord, byte_word, is_created_in, mark_word, owned_in, record_from, record_words};
+ghost use Rattle.apex_forms.specs.Codes.{code_of};
 
 use crate::codes::{
     WaitCode, holding_in, holding_word, instant_in, instant_word, suspender_byte, suspender_in,
@@ -18,15 +19,12 @@ pub(crate) const RECORD_WORDS: usize = 11;
 /// The word before those of the mutexes that a process owns.
 const BEFORE_OWNED: usize = 7;
 
-/// The words of a process that has these moments in place of its own: a word of bytes and one of
-/// marks, then those of its wait, its stamp, its due, its deadline, its release, and the mutexes that
-/// it owns.
-pub(crate) fn record_words(created: bool, fields: &Record, moments: Moments) -> [u64; RECORD_WORDS]
-    requires { FitsRecord (with_moments fields.now moments) }
-    ensures { result ≡ record_words created (with_moments fields.now moments) }
+/// The first word of a process, with this code of its wait: bytes.
+fn byte_word(fields: &Record, wait: &WaitCode) -> u64
+    requires { wait.now ≡ code_of fields.now.wait }
+    ensures { result ≡ byte_word fields.now }
 {
-    let wait = WaitCode::of(&fields.wait);
-    let bytes = [
+    u64::from_le_bytes([
         fields.core.number(),
         fields.base,
         u8::from(fields.started),
@@ -35,16 +33,33 @@ pub(crate) fn record_words(created: bool, fields: &Record, moments: Moments) -> 
         wait.place,
         fields.step,
         0,
-    ];
+    ])
+}
+
+/// The second word of a process that has these moments: marks.
+fn mark_word(created: bool, fields: &Record, moments: Moments) -> u64
+    ensures { result ≡ mark_word created (with_moments fields.now moments) }
+{
     let (created, due, deadline) = (
         u8::from(created),
         u8::from(moments.due.is_some()),
         u8::from(moments.deadline.is_some()),
     );
+    u64::from_le_bytes([created, due, deadline, 0, 0, 0, 0, 0])
+}
+
+/// The words of a process that has these moments in place of its own: a word of bytes and one of
+/// marks, then those of its wait, its stamp, its due, its deadline, its release, and the mutexes that
+/// it owns.
+pub(crate) fn record_words(created: bool, fields: &Record, moments: Moments) -> [u64; RECORD_WORDS]
+    requires { FitsRecord (with_moments fields.now moments) }
+    ensures { result ≡ record_words created (with_moments fields.now moments) }
+{
+    let wait = WaitCode::of(&fields.wait);
     let owned = fields.owned.as_slice();
     [
-        u64::from_le_bytes(bytes),
-        u64::from_le_bytes([created, due, deadline, 0, 0, 0, 0, 0]),
+        byte_word(fields, &wait),
+        mark_word(created, fields, moments),
         wait.word,
         moments.since as u64,
         instant_word(moments.due),

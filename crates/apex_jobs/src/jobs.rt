@@ -14,6 +14,7 @@ use crate::taking::take_and_expand;
 use apex_explore::{Answer, Desk, Places, Search, Stop, System, Watch};
 use std::alloc::{AllocError, Global};
 use std::marker::{Send, Sync};
+use std::mem::drop;
 use std::thread::Threads;
 
 /// A desk has at most this many states at once. More take more memory until what is found in them is kept,
@@ -75,7 +76,9 @@ impl<'r, R: Threads + Sync> Jobs<'r, R> {
             IfOk result (Says step (S.start system.now) room) }
     {
         let mut search = Search::new(alloc, system, room)?;
-        self.go_on(alloc, &mut search, system, watch)
+        let answer = self.go_on(alloc, &mut search, system, watch);
+        drop(search);
+        answer
     }
 
     /// Searches on, nearest states first, for a choice of the system that hits, as `Search::go_on`

@@ -104,10 +104,10 @@ impl QueueStore {
         ensures { IfOk result (λ store. store.roster ≡ opening_roster table.now) }
     {
         let count = table.process_count() as u16;
-        let records = PlainStore::new(alloc, table)?;
-        let lists = Lists::new(alloc, count)?;
-        let timers = Timers::new(alloc, count)?;
         let owners = Owners::new(alloc)?;
+        let timers = Timers::new(alloc, count)?;
+        let lists = Lists::new(alloc, count)?;
+        let records = PlainStore::new(alloc, table)?;
         Ok(QueueStore {
             records,
             lists,
