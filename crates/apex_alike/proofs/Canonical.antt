@@ -8,7 +8,7 @@ use Rattle.std.proofs.lemmas.List.{get_or_past}
 use Rattle.std.proofs.lemmas.List.Sums.{count_by-le-length, sum_by-cons, sum_by-le-sum_by}
 use Rattle.std.proofs.lemmas.Nat.{div-add-mod'}
 use Rattle.std.proofs.lemmas.Option.{none-some}
-use Rattle.apex_alike.specs.Terms.{Mode, Queue, Record}
+use Rattle.apex_laws.specs.Terms.{Mode, Queue, Record}
 use Rattle.apex_machine.specs.processes.Dues.{IsFrom}
 use Rattle.apex_machine.specs.processes.Periods.{awaits_first}
 use Rattle.apex_machine.specs.processes.Queues.{is_queue}

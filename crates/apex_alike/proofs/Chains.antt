@@ -1,7 +1,7 @@
 -- Situations that are alike to situations that are alike.
 use Rattle.std.proofs.Common.{◌≡◌, ℕ, ◌+◌, ◌*◌, ◌<◌, ◌⊎◌, Option, None, Some, inl, inr, refl, sym, ◌∙◌, ap, subst, arith}
 use Rattle.std.proofs.Math.Nat.{add-mul}
-use Rattle.apex_alike.specs.Terms.{Record}
+use Rattle.apex_laws.specs.Terms.{Record}
 use Rattle.apex_machine.specs.processes.Periods.{awaits_first}
 use Rattle.apex_machine.specs.processes.Roster.{Roster, record_at}
 use Rattle.apex_alike.specs.Alike.{AreAlike, AreRivals, IsLater, ServesFor, later, moved}

@@ -3,7 +3,7 @@ use Rattle.std.proofs.Common.{◌≡◌, ◌≢◌, ℕ, ◌+◌, ◌<◌, ◌<�
 use Rattle.std.specs.Prelude.{int_lt}
 use Rattle.std.proofs.lemmas.Bool.{and_from, and_parts, both_ways, cases_eq}
 use Rattle.std.proofs.lemmas.Int.{ints}
-use Rattle.apex_alike.specs.Terms.{Mode, Queue, Record}
+use Rattle.apex_laws.specs.Terms.{Mode, Queue, Record}
 use Rattle.apex_machine.specs.processes.Roster.{Roster, record_at, with_record}
 use Rattle.apex_machine.specs.processes.Running.{is_eligible, is_older, current_priority, runs_on}
 use Rattle.apex_machine.specs.processes.Waiters.{queue_in, waits_in}

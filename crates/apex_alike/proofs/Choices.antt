@@ -1,6 +1,6 @@
 -- Rosters that are alike choose alike.
 use Rattle.std.proofs.Common.{◌≡◌, ℕ, ◌+◌, ◌<◌, ◌==◌, List, [], ◌∷◌, length, Option, None, Some, min, inl, inr, refl, ◌∙◌, ap, arith}
-use Rattle.apex_alike.specs.Terms.{Discipline, Mode, Queue, Record}
+use Rattle.apex_laws.specs.Terms.{Discipline, Mode, Queue, Record}
 use Rattle.apex_types.specs.declared.modes.Discipline.TheVariants.{Fifo, Priority}
 use Rattle.apex_machine.specs.processes.Dues.{earliest, first_due, first_missed, is_due_at, is_instant, is_missed_at, next_instant, sooner}
 use Rattle.apex_machine.specs.processes.Owners.{owner, owns}

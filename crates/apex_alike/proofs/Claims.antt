@@ -3,7 +3,7 @@ use Rattle.std.proofs.Common.{◌≡◌, suc, ◌+◌, false, List, [], ◌∷�
 use Rattle.std.specs.Prelude.{All}
 use Rattle.std.proofs.lemmas.Bool.{cases_lt}
 use Rattle.std.proofs.lemmas.List.Elements.{All-nil, All-push}
-use Rattle.apex_alike.specs.Terms.{Entry, Event, Record}
+use Rattle.apex_laws.specs.Terms.{Entry, Event, Record}
 use Rattle.apex_machine.specs.Machine.{Machine, accept, entry_of, opening, run}
 use Rattle.apex_machine.specs.processes.Dues.{next_instant}
 use Rattle.apex_machine.specs.table.Table.{IsLawful, Table}

@@ -3,7 +3,7 @@ use Rattle.std.proofs.Common.{◌≡◌, ℕ, ◌+◌, ◌-◌, ◌*◌, ◌%◌
 use Rattle.std.proofs.Math.Nat.{add-mul-mod_self_right}
 use Rattle.std.proofs.lemmas.Bool.{and_from, and_parts, both_ways, cases_Bool, cases_lt, cond-true, eq-eqb, lt-ltb}
 use Rattle.std.proofs.lemmas.List.{ext_get_or, get_or_past}
-use Rattle.apex_alike.specs.Terms.{Mode, Queue, Record}
+use Rattle.apex_laws.specs.Terms.{Mode, Queue, Record}
 use Rattle.apex_machine.specs.processes.Periods.{awaits_first}
 use Rattle.apex_machine.specs.processes.Roster.{Disciplines, MutexRules, Roster, nobody, record_at}
 use Rattle.apex_machine.specs.processes.Running.{is_eligible, is_older, runs_on}

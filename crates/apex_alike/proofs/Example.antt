@@ -2,7 +2,7 @@
 use Rattle.std.proofs.Common.{◌≡◌, ℕ, zero, suc, [], ◌∷◌, Some, refl, subst}
 use Rattle.std.specs.Prelude.{slice_get, codes, true, false}
 use Rattle.std.proofs.lemmas.Option.{none-some, same_Some}
-use Rattle.apex_alike.specs.Terms.{Event}
+use Rattle.apex_laws.specs.Terms.{Event}
 use Rattle.apex_types.specs.declared.entries.Event.TheVariants.{Tick}
 use Rattle.apex_machine.specs.declared.profiles.Profile.TheVariants.{One}
 use Rattle.apex_types.specs.declared.modes.DeadlineType.TheVariants.{Soft}

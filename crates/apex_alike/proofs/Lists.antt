@@ -1,7 +1,7 @@
 -- Lists of records that correspond one by one.
 use Rattle.std.proofs.Common.{◌≡◌, ℕ, suc, ◌+◌, ◌<◌, Bool, true, not, List, [], ◌∷◌, length, get_or, Option, None, Some, position, count_by, fold, if◌then◌else◌, refl, sym, ◌∙◌, arith}
 use Rattle.std.specs.List.{prefix_len}
-use Rattle.apex_alike.specs.Terms.{Record}
+use Rattle.apex_laws.specs.Terms.{Record}
 use Rattle.apex_machine.specs.processes.Roster.{nobody}
 use Rattle.apex_machine.specs.processes.Choice.{place_of_least}
 use Rattle.std.specs.Cmp.{IsStrictWeakOrder}

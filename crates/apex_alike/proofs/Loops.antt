@@ -3,7 +3,7 @@ use Rattle.std.proofs.Common.{◌≡◌, ℕ, zero, suc, ◌<◌, false, List, [
 use Rattle.std.proofs.lemmas.Bool.{both_ways}
 use Rattle.std.proofs.lemmas.List.{length-set}
 use Rattle.std.proofs.lemmas.Option.{none-some, same_Some}
-use Rattle.apex_alike.specs.Terms.{Holding, Message, Queue, Record, ReturnCode, Wait}
+use Rattle.apex_laws.specs.Terms.{Holding, Message, Queue, Record, ReturnCode, Wait}
 use Rattle.apex_types.specs.declared.entries.ReturnCode.TheVariants.{NoError}
 use Rattle.apex_machine.specs.declared.records.Queue.TheVariants as queues
 use Rattle.apex_machine.specs.declared.records.Wait.TheVariants as wait

@@ -1,7 +1,7 @@
 -- The services of semaphores, buffers, blackboards, event flags and mutexes keep rosters alike.
 use Rattle.std.proofs.Common.{◌≡◌, ℕ, ◌+◌, ◌-◌, Bool, true, false, cond, List, [], ◌∷◌, ◌++◌, length, Option, None, Some, refl, sym, ◌∙◌, ap, subst}
 use Rattle.std.specs.Prelude.{not, nat_lt, slice_index_or}
-use Rattle.apex_alike.specs.Terms.{BlackboardService, BufferService, Caller, EventFlagService, Holding, Message, MutexService, Record, SemaphoreService, Timeout}
+use Rattle.apex_laws.specs.Terms.{BlackboardService, BufferService, Caller, EventFlagService, Holding, Message, MutexService, Record, SemaphoreService, Timeout}
 use Rattle.apex_types.specs.declared.calls.BlackboardService.TheVariants.{Display, Read, Clear}
 use Rattle.apex_types.specs.declared.calls.BufferService.TheVariants.{Send, Receive}
 use Rattle.apex_types.specs.declared.entries.Caller.TheVariants.{Process}

@@ -2,7 +2,7 @@
 use Rattle.std.proofs.Common.{◌≡◌, ℕ, suc, ◌-◌, ◌<◌, true, List, [], ◌∷◌, length, Option, None, Some, refl, sym, ◌∙◌, ap, subst, arith, inl, inr}
 use Rattle.std.specs.Prelude.{All}
 use Rattle.std.proofs.lemmas.Bool.{cases_lt}
-use Rattle.apex_alike.specs.Terms.{Call, Event, Record, Reply}
+use Rattle.apex_laws.specs.Terms.{Call, Event, Record, Reply}
 use Rattle.apex_types.specs.declared.calls.Call.TheVariants.{Time}
 use Rattle.apex_types.specs.declared.entries.Reply.TheVariants.{Value}
 use Rattle.apex_types.specs.declared.calls.TimeCall.TheVariants.{GetTime}

@@ -5,7 +5,7 @@ use Rattle.std.proofs.lemmas.Bool.{and_parts, both_ways, lt-ltb}
 use Rattle.apex_alike.proofs.Chains.{unmoved}
 use Rattle.std.proofs.lemmas.Option.{none-some}
 use Rattle.std.proofs.lemmas.List.{length-map}
-use Rattle.apex_alike.specs.Terms.{Caller, CallerCall, Mode, PartitionCall, ProcessService, Record, State, TimeCall, Timeout}
+use Rattle.apex_laws.specs.Terms.{Caller, CallerCall, Mode, PartitionCall, ProcessService, Record, State, TimeCall, Timeout}
 use Rattle.apex_types.specs.declared.calls.CallerCall.TheVariants.{StopSelf, SuspendSelf, GetMyId, GetMyProcessorCoreId}
 use Rattle.apex_types.specs.declared.modes.Mode.TheVariants as mode
 use Rattle.apex_types.specs.declared.entries.Notice.TheVariants.{Woken}

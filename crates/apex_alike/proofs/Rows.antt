@@ -3,7 +3,7 @@ use Rattle.std.proofs.Common.{◌≡◌, ℕ, ◌+◌, ◌<◌, Bool, false, con
 use Rattle.std.proofs.lemmas.Bool.{both_ways}
 use Rattle.std.proofs.lemmas.Option.{none-some}
 use Rattle.std.specs.Prelude.{◌&&◌, not, slice_set, slice_index_or}
-use Rattle.apex_alike.specs.Terms.{Caller, ObjectCall, Reply, ReturnCode, Timeout, Wait}
+use Rattle.apex_laws.specs.Terms.{Caller, ObjectCall, Reply, ReturnCode, Timeout, Wait}
 use Rattle.apex_types.specs.declared.entries.Caller.TheVariants.{Process, Init, Nobody}
 use Rattle.apex_types.specs.declared.calls.ObjectCall.TheVariants.{Create, GetId, GetStatus, KindService}
 use Rattle.apex_types.specs.declared.entries.Reply.TheVariants.{Value}

@@ -3,7 +3,7 @@ use Rattle.std.proofs.Common.{◌≡◌, ℕ, suc, ◌+◌, ◌-◌, ◌*◌, �
 use Rattle.std.proofs.Math.Nat.{mod-lt, mul-le-mul}
 use Rattle.std.proofs.lemmas.Bool.{cond_both, ltb-false}
 use Rattle.std.proofs.lemmas.Int.{ints}
-use Rattle.apex_alike.specs.Terms.{Record}
+use Rattle.apex_laws.specs.Terms.{Record}
 use Rattle.apex_machine.specs.processes.Dues.{HasTime}
 use Rattle.apex_machine.specs.processes.Periods.{awaits_first}
 use Rattle.apex_machine.specs.processes.Roster.{Roster, nobody, record_at}

@@ -3,7 +3,7 @@ use Rattle.std.proofs.Common.{◌≡◌, ℕ, zero, suc, ◌+◌, ◌-◌, ◌<�
 use Rattle.std.specs.Prelude.{All}
 use Rattle.std.proofs.lemmas.Bool.{cases_lt, cond_both}
 use Rattle.std.proofs.lemmas.Option.{none-some, same_Some}
-use Rattle.apex_alike.specs.Terms.{Event, OpenWork, Record}
+use Rattle.apex_laws.specs.Terms.{Event, OpenWork, Record}
 use Rattle.apex_types.specs.declared.entries.Event.TheVariants.{Turn, Tick}
 use Rattle.apex_machine.specs.Machine.{Machine, accept, happen, open_work, opening, run}
 use Rattle.apex_machine.specs.Ticks.{not_beyond, pass_time, serve_deadlines, serve_due, serve_dues, serve_instant, serve_missed, tick_goal}

@@ -3,7 +3,7 @@ use Rattle.std.proofs.Common.{◌≡◌, ℕ, suc, ◌+◌, if◌then◌else◌,
 use Rattle.std.specs.Prelude.{All}
 use Rattle.std.proofs.lemmas.Bool.{cases_lt}
 use Rattle.std.proofs.lemmas.List.Sums.{sum_by-append}
-use Rattle.apex_alike.specs.Terms.{Entry, Event, Record}
+use Rattle.apex_laws.specs.Terms.{Entry, Event, Record}
 use Rattle.apex_types.specs.declared.entries.Event.TheVariants.{Turn, Tick}
 use Rattle.apex_machine.specs.History.{init_count}
 use Rattle.apex_machine.specs.Machine.{Machine, accept, after_deed, entry_of, happen, objects_after, open_work, opening, run}

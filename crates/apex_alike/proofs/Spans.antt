@@ -3,7 +3,7 @@ use Rattle.std.proofs.Common.{◌≡◌, ℕ, length, sym, ap, ◌∙◌, inl, i
 use Rattle.std.proofs.lemmas.Bool.{cases_lt}
 use Rattle.std.proofs.lemmas.List.{get_or_past}
 use Rattle.std.proofs.lemmas.Option.{none-some}
-use Rattle.apex_alike.specs.Terms.{Attributes}
+use Rattle.apex_laws.specs.Terms.{Attributes}
 use Rattle.apex_machine.proofs.Periods.{HasSomeTicks}
 use Rattle.apex_machine.specs.processes.Roster.{Roster, record_at}
 use Rattle.apex_machine.specs.table.Table.{IsLawful, ProcessConfig, Table, no_process, process_config}

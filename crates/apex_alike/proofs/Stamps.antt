@@ -3,7 +3,7 @@ use Rattle.std.proofs.Common.{◌≡◌, ℕ, ◌+◌, ◌-◌, ◌*◌, ◌/◌
 use Rattle.std.proofs.lemmas.Bool.{both_ways}
 use Rattle.std.proofs.lemmas.List.{length-set, set-set}
 use Rattle.std.proofs.lemmas.Option.{none-some}
-use Rattle.apex_alike.specs.Terms.{Holding, Message, Mode, Record, Timeout, Wait}
+use Rattle.apex_laws.specs.Terms.{Holding, Message, Mode, Record, Timeout, Wait}
 use Rattle.apex_machine.specs.declared.records.Suspender.TheVariants.{Other}
 use Rattle.apex_types.specs.declared.calls.Timeout.TheVariants.{Poll, Ticks, Infinite}
 use Rattle.apex_types.specs.declared.modes.Mode.TheVariants.{Idle, ColdStart, Normal as ModeNormal}

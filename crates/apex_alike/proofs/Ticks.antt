@@ -3,7 +3,7 @@ use Rattle.std.proofs.Common.{◌≡◌, ℕ, ◌+◌, ◌<◌, true, false, [],
 use Rattle.std.proofs.lemmas.Bool.{both_ways}
 use Rattle.std.proofs.lemmas.List.{length-set}
 use Rattle.std.proofs.lemmas.Option.{none-some}
-use Rattle.apex_alike.specs.Terms.{DeadlineType, Record, Wait}
+use Rattle.apex_laws.specs.Terms.{DeadlineType, Record, Wait}
 use Rattle.apex_types.specs.declared.modes.DeadlineType.TheVariants.{Soft, Hard}
 use Rattle.apex_types.specs.declared.entries.Notice.TheVariants.{Missed}
 use Rattle.apex_types.specs.declared.entries.ReturnCode.TheVariants.{NoError, TimedOut}

@@ -1,6 +1,6 @@
 -- Every event keeps situations alike.
 use Rattle.std.proofs.Common.{◌≡◌, ℕ, ◌+◌, ◌-◌, ◌<◌, ◌==◌, ◌&&◌, Bool, true, false, if◌then◌else◌, length, Option, None, Some, is_some, option_map, refl, sym, ◌∙◌, ap, subst, arith}
-use Rattle.apex_alike.specs.Terms.{Call, Caller, Event, Mode, OpenWork, Record, Reply, Who, Work}
+use Rattle.apex_laws.specs.Terms.{Call, Caller, Event, Mode, OpenWork, Record, Reply, Who, Work}
 use Rattle.apex_types.specs.declared.calls.Call.TheVariants.{Partition, Process as ToProcess, Caller as ToCaller, Time, Semaphore, Buffer, Blackboard, EventFlag as ToEventFlag, Mutex, Work as ToWork}
 use Rattle.apex_types.specs.declared.entries.Caller.TheVariants.{Process, Init, Nobody}
 use Rattle.apex_types.specs.declared.calls.CallerCall.TheVariants.{StopSelf}

@@ -2,7 +2,7 @@
 -- that no longer matter.
 use Rattle.std.specs.Prelude.{◌≡◌, ℕ, ◌+◌, ◌*◌, ◌<◌, ◌≤◌, ◌⊎◌, Bool, true, false, length, Option, None, Some, ℤ, option_map}
 use Rattle.apex_machine.specs.processes.Distinct.{IsStamped}
-use Rattle.apex_alike.specs.Terms.{Message, Mode, Queue, Record, TimeCall, Wait}
+use Rattle.apex_laws.specs.Terms.{Message, Mode, Queue, Record, TimeCall, Wait}
 use Rattle.apex_machine.specs.processes.Periods.{awaits_first}
 use Rattle.apex_types.specs.declared.calls.TimeCall.TheVariants.{GetTime}
 use Rattle.apex_machine.specs.declared.records.Wait.TheVariants.{Normal}

@@ -1,6 +1,6 @@
 -- Situations that are alike, and events that keep them so.
 use Rattle.std.specs.Prelude.{◌≡◌, ℕ, ◌+◌, ◌<◌, length, Option, Some}
-use Rattle.apex_alike.specs.Terms.{Call, Event, OpenWork, Reply}
+use Rattle.apex_laws.specs.Terms.{Call, Event, OpenWork, Reply}
 use Rattle.apex_types.specs.declared.calls.Call.TheVariants.{Time}
 use Rattle.apex_types.specs.declared.calls.TimeCall.TheVariants.{GetTime}
 use Rattle.apex_types.specs.declared.entries.Reply.TheVariants.{Value}

@@ -2,7 +2,7 @@
 -- that matters on, and nothing that does not matter.
 use Rattle.std.specs.Prelude.{◌≡◌, ℕ, ◌+◌, ◌-◌, ◌*◌, ◌%◌, ◌≤◌, ◌==◌, ◌&&◌, Bool, true, false, not, nat_lt, max, count_by, length, List, [], ◌∷◌, Option, None, Some, option_map, pos, if◌then◌else◌}
 use Rattle.apex_types.specs.declared.limits.TheConstants.{MOST_SPAN}
-use Rattle.apex_alike.specs.Terms.{Mode, Queue, Record}
+use Rattle.apex_laws.specs.Terms.{Mode, Queue, Record}
 use Rattle.apex_machine.specs.processes.Dues.{HasNoPastDeadline, HasNoPastDue}
 use Rattle.apex_machine.specs.processes.Periods.{awaits_first}
 use Rattle.apex_machine.specs.processes.Queues.{is_queue}

@@ -9,7 +9,7 @@ use Rattle.apex_machine.specs.processes.Roster.{Roster, record_at}
 use Rattle.apex_machine.specs.processes.Running.{chosen}
 use Rattle.apex_machine.specs.table.Table.{Table}
 use Rattle.apex_alike.specs.Closed.{HasClosed, IsAmong}
-use Rattle.apex_alike.specs.Terms.{Entry, Event, Notice}
+use Rattle.apex_laws.specs.Terms.{Entry, Event, Notice}
 
 -- the notice reports a missed deadline
 abbrev pub is_miss : Notice → Bool

@@ -7,7 +7,7 @@ use Rattle.apex_machine.specs.table.Table.{Table}
 use Rattle.apex_alike.specs.AlikeSteps.{AreAlikeSituations}
 use Rattle.apex_alike.specs.Canonical.{canonical}
 use Rattle.apex_alike.specs.StandIns.{Represents}
-use Rattle.apex_alike.specs.Terms.{Event}
+use Rattle.apex_laws.specs.Terms.{Event}
 
 -- one of these situations stands for the machine
 pub record IsSeen (table : Table) (seen : List Situation) (machine : Machine) : Type 0 where

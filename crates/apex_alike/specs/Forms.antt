@@ -9,7 +9,7 @@ use Rattle.apex_machine.specs.Situations.{Situation, deed}
 use Rattle.apex_machine.specs.table.Table.{Table}
 use Rattle.apex_alike.specs.Canonical.{canonical}
 use Rattle.apex_alike.specs.Closed.{IsAmong, IsSameSituation}
-use Rattle.apex_alike.specs.Terms.{Call, Event, Reply}
+use Rattle.apex_laws.specs.Terms.{Call, Event, Reply}
 
 -- the canonical form of a machine's situation
 abbrev pub form : Table → Machine → Situation

@@ -2,7 +2,7 @@
 -- subjects, and hold of each lawful table.
 use Rattle.std.specs.Prelude.{◌≡◌, ◌-◌, ◌≤◌, ℕ, length}
 use Rattle.apex_types.specs.declared.limits.TheConstants.{MOST_PROCESSES}
-use Rattle.apex_alike.specs.Terms.{Queue}
+use Rattle.apex_laws.specs.Terms.{Queue}
 use Rattle.apex_machine.specs.Situations.{Situation}
 use Rattle.apex_machine.specs.processes.Dues.{HasTime, first_due, first_missed, next_instant}
 use Rattle.apex_machine.specs.processes.Owners.{owner}

@@ -1,5 +1,4 @@
 -- Rosters, situations and machines that are alike.
-pub mod Terms
 pub mod Alike
 pub mod AlikeSteps
 pub mod Canonical

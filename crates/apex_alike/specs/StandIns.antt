@@ -4,7 +4,7 @@ use Rattle.apex_machine.specs.Machine.{Machine, after_deed, happen, opening, run
 use Rattle.apex_machine.specs.Situations.{Situation, deed, maker, step}
 use Rattle.apex_machine.specs.table.Table.{Table}
 use Rattle.apex_alike.specs.AlikeSteps.{AreAlikeDeeds, AreAlikeSituations}
-use Rattle.apex_alike.specs.Terms.{Event}
+use Rattle.apex_laws.specs.Terms.{Event}
 
 -- the situation is alike to that of the machine, which is d later
 abbrev pub Represents : Table → ℕ → Situation → Machine → Type 0

@@ -6,6 +6,7 @@ pub use Rattle.apex_types.specs.declared.calls.Call.{Call}
 pub use Rattle.apex_types.specs.declared.entries.Caller.{Caller}
 pub use Rattle.apex_types.specs.declared.calls.CallerCall.{CallerCall}
 pub use Rattle.apex_types.specs.declared.modes.DeadlineType.{DeadlineType}
+pub use Rattle.apex_types.specs.declared.modes.Discipline.{Discipline}
 pub use Rattle.apex_types.specs.declared.entries.Entry.{Entry}
 pub use Rattle.apex_types.specs.declared.entries.Event.{Event}
 pub use Rattle.apex_types.specs.declared.calls.EventFlagService.{EventFlagService}
