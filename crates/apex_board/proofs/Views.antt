@@ -5,7 +5,7 @@ use Rattle.apex_types.specs.declared.entries.Entry.{Entry}
 use Rattle.apex_machine.specs.table.Table.{Table}
 use Rattle.apex_board.specs.declared.law.View.{View}
 use Rattle.apex_board.specs.declared.law.View.TheVariants.{Publishes, Reads}
-use Rattle.apex_board.specs.Cells.{known_in, told_in}
+use Rattle.apex_board.specs.Cells.{known_in, told_in, told_of}
 
 -- the view of a publisher is that of the histories in it
 pub publishes_known : (table : Table) (history told : List Entry) (v : View) → v ≡ Publishes table history told → v ≡ Publishes table (known_in v) (told_in v)
@@ -22,3 +22,8 @@ same_cell cell a b is was = cc (is, was)
 -- a pass stays one of the partition's cell
 pub still_named : (cell : Option TableId) (a b : TableId) → cell ≡ Some a → b ≡ a → cell ≡ Some b
 still_named cell a b is same = is ∙ ap Some (sym same)
+
+-- a publisher that is told what a reader knows knows that the reader has seen it
+pub told_of_seen : {table : Table} {history told seen : List Entry} {publisher reader after : View} → publisher ≡ Publishes table history told
+    → reader ≡ Reads table seen → after ≡ told_of publisher reader → after ≡ Publishes table history seen
+told_of_seen publishes reads is = is ∙ (λ i. told_of (publishes i) (reads i))

@@ -1,3 +1,4 @@
 pub mod Fronts
+pub mod Access
 pub mod Cells
 pub mod Boards

@@ -3,45 +3,38 @@ ghost use Rattle.std.specs.Prelude.{◌≡◌, ◌+◌, ◌≤◌, [], None, IfO
 ghost use Rattle.apex_types.specs.declared.limits.TheConstants.{MOST_CORES};
 ghost use Rattle.apex_board.specs.Boards.{HasPublished, most_readers};
 
-use crate::law::{Cell, Mark};
+use crate::access::Access;
 use crate::publishers::Publisher;
 use crate::readers::Reader;
 use apex_receipts::Naming;
 use std::alloc::{AllocError, Global};
 use std::marker::Model;
-use std::sync::Arc;
 
 /// The most readers of a partition (this profile).
 pub const MOST_READERS: u32 = 8;
 
-/// A cell that is not yet one of a partition.
+/// The access to a cell that is not yet one of a partition.
 #[derive(Drop)]
 struct Unnamed {
-    cell: Arc<Cell, Global>,
-    mark: Mark,
+    access: Access,
 }
 
 impl Model for Unnamed {
     ghost use Rattle.std.specs.Prelude.{◌≡◌};
-    ghost use Rattle.std.specs.Arc.{arc_value};
     ghost use Rattle.atomic_table.specs.Seated.{TableId};
-    ghost use Rattle.crossbeam_utils.specs.Seq.{cell_view};
     ghost use Rattle.apex_board.specs.declared.law.View.TheVariants.{Blank};
 
     ghost Value = { TableId };
 
-    ghost view = { λ u. u.mark.table_id };
+    ghost view = { λ u. u.access.cell };
 
-    ghost invariant = { λ u. (u.mark.table_id ≡ (arc_value u.cell).table.shared.table_id)
-        × (cell_view u.mark ≡ Blank) };
+    ghost invariant = { λ u. u.access.knows ≡ Blank };
 }
 
 impl Unnamed {
     fn new(alloc: Global) -> Result<Unnamed, AllocError> {
-        let (cell, mark) = Cell::ruled(alloc, [0, 0, 0])?;
         Ok(Unnamed {
-            cell: Arc::new(alloc, cell)?,
-            mark,
+            access: Access::new(alloc)?,
         })
     }
 }
@@ -108,7 +101,7 @@ impl NewBoard {
         let Some(unnamed) = cell else {
             return Ok((None, Board { readers: given }));
         };
-        let mut publisher = Publisher::new(unnamed.cell, unnamed.mark);
+        let mut publisher = Publisher::new(unnamed.access);
         for number in 0..readers {
             given.push(publisher.reader(cores)?)?;
         }

@@ -1,10 +1,11 @@
 //! The cell in which fronts are published, its rule, and the steps that are made on it.
 
+use crate::steps;
 use apex_configs::Table;
 use apex_receipts::Naming;
 use apex_types::Entry;
 use atomic_table::{Join, Split};
-use crossbeam_utils::atomic::seq_cell::{Pass, RuledSeqCell};
+use crossbeam_utils::atomic::seq_cell::Pass;
 use crossbeam_utils::rule::{Outcome, Protocol};
 use std::marker::{Brand, Model, PhantomData};
 
@@ -47,7 +48,7 @@ impl Protocol<[u64; 3], View> for Law {
 }
 
 /// The words of one front, which several readers may read at the same time.
-pub type Cell = RuledSeqCell<[u64; 3], View, Law, 3>;
+pub type Cell = steps::Cell<Law>;
 
 /// The pass with which a step on the cell is made.
 pub type Mark = Pass<[u64; 3], View>;
