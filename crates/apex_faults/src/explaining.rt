@@ -31,6 +31,11 @@ fn why_no_name(alloc: Global, name: &str) -> Result<String, AllocError> {
     }
 }
 
+/// What was given, and what is wanted in its place.
+fn wanted_text(alloc: Global, given: &str, wanted: &str) -> Result<String, AllocError> {
+    format!(in alloc; "{given} is given; {wanted} is wanted")
+}
+
 /// What is wanted in place of a text that is no name.
 fn bad_name_text(alloc: Global, name: &str) -> Result<String, AllocError> {
     let given = shown_text(alloc, name)?;
@@ -58,7 +63,7 @@ fn argument_text(
         (Shape::Named(_), TableFault::BadName(_)) => bad_name_text(alloc, word),
         _ => {
             let wanted = wanted_word(alloc, shape)?;
-            format!(in alloc; "{given} is given; {wanted} is wanted")
+            wanted_text(alloc, given.as_str(), wanted.as_str())
         }
     }
 }
@@ -121,7 +126,7 @@ fn step_text(alloc: Global, step: Option<&Value>) -> Result<String, AllocError> 
             let arguments = arguments_text(alloc, row)?;
             format!(in alloc; "{given} is given; {arguments}")
         }
-        None => format!(in alloc; "{given} is given; a text is wanted"),
+        None => wanted_text(alloc, given.as_str(), "a text"),
     }
 }
 
@@ -147,7 +152,7 @@ fn key_text(
         }
         _ => {
             let given = shown(alloc, value)?;
-            format!(in alloc; "{given} is given; {wanted} is wanted")
+            wanted_text(alloc, given.as_str(), wanted.as_str())
         }
     }
 }
@@ -182,10 +187,10 @@ fn whole_text(alloc: Global, place: Place, value: Option<&Value>) -> Result<Stri
     let given = shown(alloc, value)?;
     match place.number {
         0 if place.section == Section::Init => {
-            format!(in alloc; "{given} is given; an array of texts is wanted")
+            wanted_text(alloc, given.as_str(), "an array of texts")
         }
         0 => format!(in alloc; "{given} is given; an array of tables is wanted, as [[{section}]]"),
-        _ => format!(in alloc; "{given} is given; a table is wanted"),
+        _ => wanted_text(alloc, given.as_str(), "a table"),
     }
 }
 
