@@ -1,11 +1,10 @@
 //! The cell in which fronts are published, its rule, and the steps that are made on it.
 
-use crate::steps;
 use apex_configs::Table;
 use apex_receipts::Naming;
 use apex_types::Entry;
 use atomic_table::{Join, Split};
-use crossbeam_utils::atomic::seq_cell::Pass;
+use crossbeam_utils::atomic::seq_cell::{Pass, RuledSeqCell};
 use crossbeam_utils::rule::{Outcome, Protocol};
 use std::marker::{Brand, Model, PhantomData};
 
@@ -47,8 +46,11 @@ impl Protocol<[u64; 3], View> for Law {
     ghost first = { Blank };
 }
 
-/// The words of one front, which several readers may read at the same time.
-pub type Cell = steps::Cell<Law>;
+/// The words of one front under a rule.
+pub type CellUnder<L> = RuledSeqCell<[u64; 3], View, L, 3>;
+
+/// The words of one front under the rule, which several readers may read at the same time.
+pub type Cell = CellUnder<Law>;
 
 /// The pass with which a step on the cell is made.
 pub type Mark = Pass<[u64; 3], View>;

@@ -5,18 +5,14 @@ ghost use Rattle.crossbeam_utils.specs.Seq.{cell_view};
 ghost use Rattle.apex_board.specs.Access.{MayHear, MaySplit, MayTurn};
 ghost use Rattle.apex_board.specs.Cells.{told_of};
 
-use crate::law::{Hearing, Mark, View};
+use crate::law::{CellUnder, Hearing, Mark, View};
 use atomic_table::Split;
-use crossbeam_utils::atomic::seq_cell::RuledSeqCell;
 use crossbeam_utils::rule::{Outcome, Protocol};
 use std::sync::Wait;
 
-/// The words of one front under a rule.
-pub type Cell<L> = RuledSeqCell<[u64; 3], View, L, 3>;
-
 /// Keeps the left part of what is known, and gives the right one to a new pass.
 pub(crate) fn split<L: Protocol<[u64; 3], View>, M: Split<View>>(
-    cell: &Cell<L>,
+    cell: &CellUnder<L>,
     mark: &mut Mark,
 ) -> Mark
     requires own { mark.old.table_id ≡ cell.now.table.shared.table_id }
@@ -32,7 +28,7 @@ pub(crate) fn split<L: Protocol<[u64; 3], View>, M: Split<View>>(
 }
 
 /// Takes in what another pass knows, which `split` gave.
-pub(crate) fn join<L: Protocol<[u64; 3], View>>(cell: &Cell<L>, mark: &mut Mark, other: Mark)
+pub(crate) fn join<L: Protocol<[u64; 3], View>>(cell: &CellUnder<L>, mark: &mut Mark, other: Mark)
     requires own { mark.old.table_id ≡ cell.now.table.shared.table_id }
     requires of { other.table_id ≡ mark.old.table_id }
     requires whole { other.me.1 ≡ [] }
@@ -45,7 +41,7 @@ pub(crate) fn join<L: Protocol<[u64; 3], View>>(cell: &Cell<L>, mark: &mut Mark,
 
 /// The words, whose read shows what `M` says. It promises only if it returns.
 pub(crate) fn load<L: Protocol<[u64; 3], View>, M: Outcome<[u64; 3], View>, R: Wait>(
-    cell: &Cell<L>,
+    cell: &CellUnder<L>,
     rt: &R,
     mark: &mut Mark,
 ) -> [u64; 3]
@@ -59,7 +55,7 @@ pub(crate) fn load<L: Protocol<[u64; 3], View>, M: Outcome<[u64; 3], View>, R: W
 
 /// Puts these words in place of those that are there, and gives those. It promises only if it returns.
 pub(crate) fn swap<L: Protocol<[u64; 3], View>, M: Outcome<[u64; 3], View>, R: Wait>(
-    cell: &Cell<L>,
+    cell: &CellUnder<L>,
     rt: &R,
     mark: &mut Mark,
     words: [u64; 3],

@@ -3,7 +3,16 @@ ghost use Rattle.std.specs.Prelude.{◌≡◌, ◌<◌, ◌^◌, length, slice_i
 ghost use Rattle.apex_types.specs.declared.limits.TheConstants.{MOST_OWNED};
 ghost use Rattle.apex_forms.specs.declared.records.TheConstants.{RECORD_WORDS};
 ghost use Rattle.apex_forms.specs.Forms.{with_moments};
-ghost use Rattle.apex_forms.specs.Records.{FitsRecord, IsCoreWord, byte_word, is_created_in, mark_word, owned_in, record_from, record_words};
+ghost use Rattle.apex_forms.specs.Records.{
+  FitsRecord,
+  IsCoreWord,
+  byte_word,
+  is_created_in,
+  mark_word,
+  owned_in,
+  record_from,
+  record_words,
+};
 ghost use Rattle.apex_forms.specs.Codes.{code_of};
 
 use crate::codes::{

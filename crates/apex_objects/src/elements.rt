@@ -11,8 +11,8 @@ ghost use Rattle.apex_objects.specs.declared.lines.TheConstants.{ELEMENT_ROOM, O
 use crate::lines::{ELEMENT_ROOM, ObjectLines, put, put_process, put_thing};
 use crate::messages::put_message;
 use apex_configs::Table;
-use apex_machine::{Holding, Queue};
-use apex_names::{object_name, process_name};
+use apex_machine::Holding;
+use apex_names::{mutex_name, process_name};
 use apex_types::{DeadlineType, Message, Notice, ProcessId, ReturnCode};
 
 /// An element of an array.
@@ -93,7 +93,7 @@ impl Element for Holding {
 
     #[tactic(auto, using(std::proofs::Common::append_assoc))]
     fn put_element(&self, line: &mut ObjectLines, table: &Table) {
-        let name = object_name(table, &Queue::Mutex(self.mutex));
+        let name = mutex_name(table, self.mutex);
         put_thing(line, "{\"mutex\":", self.mutex, ",\"name\":", name);
         put(line, "}");
     }

@@ -15,8 +15,10 @@ use crate::lines::{
 use crate::messages::put_optional_message;
 use crate::waits::put_optional_wait;
 use apex_configs::Table;
-use apex_machine::{Queue, Record, Suspender};
-use apex_names::{object_name, process_name};
+use apex_machine::{Record, Suspender};
+use apex_names::{
+    blackboard_name, buffer_name, event_flag_name, mutex_name, process_name, semaphore_name,
+};
 use apex_types::{
     BlackboardId, BufferId, CoreId, EventId, MOST_PROCESSES, Message, Mode, MutexId, ProcessId,
     SemaphoreId, State,
@@ -200,7 +202,7 @@ pub(crate) fn put_semaphore(
     ensures { line.new.items
         ≡ line.old.items ++ rows.semaphore_row table.now semaphore value waiting.now }
 {
-    let name = object_name(table, &Queue::Semaphore(semaphore));
+    let name = semaphore_name(table, semaphore);
     put_thing(line, "{\"semaphore\":", semaphore, ",\"name\":", name);
     put(line, ",\"value\":");
     put_number(line, u64::from(value));
@@ -221,7 +223,7 @@ pub(crate) fn put_buffer(
     ensures { line.new.items
         ≡ line.old.items ++ rows.buffer_row table.now buffer messages.now waiting.now }
 {
-    let name = object_name(table, &Queue::Buffer(buffer));
+    let name = buffer_name(table, buffer);
     put_thing(line, "{\"buffer\":", buffer, ",\"name\":", name);
     put(line, ",\"messages\":");
     put_array(line, table, messages);
@@ -241,7 +243,7 @@ pub(crate) fn put_blackboard(
     ensures { line.new.items
         ≡ line.old.items ++ rows.blackboard_row table.now blackboard message.now waiting.now }
 {
-    let name = object_name(table, &Queue::Blackboard(blackboard));
+    let name = blackboard_name(table, blackboard);
     put_thing(line, "{\"blackboard\":", blackboard, ",\"name\":", name);
     put(line, ",\"message\":");
     put_optional_message(line, table, message);
@@ -269,7 +271,7 @@ pub(crate) fn put_event_flag(
     ensures { line.new.items
         ≡ line.old.items ++ rows.event_flag_row table.now event_flag up waiting.now }
 {
-    let name = object_name(table, &Queue::EventFlag(event_flag));
+    let name = event_flag_name(table, event_flag);
     put_thing(line, "{\"event\":", event_flag, ",\"name\":", name);
     put(line, ",\"state\":\"");
     put(line, up_word(up));
@@ -291,7 +293,7 @@ pub(crate) fn put_mutex(
     ensures { line.new.items
         ≡ line.old.items ++ rows.mutex_row table.now mutex owner.now depth waiting.now }
 {
-    let name = object_name(table, &Queue::Mutex(mutex));
+    let name = mutex_name(table, mutex);
     put_thing(line, "{\"mutex\":", mutex, ",\"name\":", name);
     put_process(line, table, ",\"owner\":", ",\"of\":", owner);
     put(line, ",\"depth\":");

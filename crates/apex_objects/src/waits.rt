@@ -8,8 +8,8 @@ ghost use Rattle.apex_objects.specs.declared.waits.TheConstants.{WAIT_ROOM};
 
 use crate::lines::{ObjectLines, THING_ROOM, put, put_thing};
 use apex_configs::Table;
-use apex_machine::{Queue, Wait};
-use apex_names::object_name;
+use apex_machine::Wait;
+use apex_names::{blackboard_name, buffer_name, event_flag_name, mutex_name, semaphore_name};
 use apex_types::Id;
 
 /// The most bytes of a wait.
@@ -53,34 +53,19 @@ fn put_wait(line: &mut ObjectLines, table: &Table, wait: &Wait)
         Wait::Time => put_plain_wait(line, "\"time\""),
         Wait::Period => put_plain_wait(line, "\"period\""),
         Wait::Semaphore(id) => {
-            put_object_wait(
-                line,
-                "semaphore",
-                *id,
-                object_name(table, &Queue::Semaphore(*id)),
-            );
+            put_object_wait(line, "semaphore", *id, semaphore_name(table, *id));
         }
         Wait::Receive(id) | Wait::Send(id, _) => {
-            put_object_wait(line, "buffer", *id, object_name(table, &Queue::Buffer(*id)));
+            put_object_wait(line, "buffer", *id, buffer_name(table, *id));
         }
         Wait::Blackboard(id) => {
-            put_object_wait(
-                line,
-                "blackboard",
-                *id,
-                object_name(table, &Queue::Blackboard(*id)),
-            );
+            put_object_wait(line, "blackboard", *id, blackboard_name(table, *id));
         }
         Wait::EventFlag(id) => {
-            put_object_wait(
-                line,
-                "event",
-                *id,
-                object_name(table, &Queue::EventFlag(*id)),
-            );
+            put_object_wait(line, "event", *id, event_flag_name(table, *id));
         }
         Wait::Mutex(id) => {
-            put_object_wait(line, "mutex", *id, object_name(table, &Queue::Mutex(*id)));
+            put_object_wait(line, "mutex", *id, mutex_name(table, *id));
         }
     }
 }
