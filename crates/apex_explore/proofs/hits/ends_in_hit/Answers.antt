@@ -1,6 +1,7 @@
 -- A choice that goes on leaves the others.
 use Rattle.std.proofs.Common.{◌<◌, length, get_or, arith}
 use Rattle.apex_explore.specs.Systems.{goes, step_within}
+use Rattle.std.proofs.lemmas.Grind.{common_steps}
 use Rattle.apex_explore.proofs.Growth.{taken_step}
 use Rattle.apex_explore.proofs.Hitting.{IsOn-goes}
 use Rattle.apex_explore.proofs.hits.ends_in_hit.Goals as goal
@@ -19,3 +20,15 @@ loop-place-preserved g c =
       known = c.in-Next.ensures.state;
       workspace = c.next.ensures.workspace;
     }
+
+pub returns-then-choice-choices : goal.returns-then-choice-choices
+returns-then-choice-choices g c = grind (arith, common_steps)
+
+pub returns-in-Refused : goal.returns-in-Refused
+returns-in-Refused g c = grind (arith, common_steps)
+
+pub returns-in-Hit : goal.returns-in-Hit
+returns-in-Hit g c = grind (arith, common_steps)
+
+pub returns : goal.returns
+returns g c = grind (arith, common_steps)

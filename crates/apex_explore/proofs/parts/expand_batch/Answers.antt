@@ -1,6 +1,7 @@
 -- The states of a batch, one after the other.
-use Rattle.std.proofs.Common.{◌+◌, ap}
+use Rattle.std.proofs.Common.{◌+◌, ap, arith}
 use Rattle.apex_explore.specs.Systems.{step_within}
+use Rattle.std.proofs.lemmas.Grind.{pieces}
 use Rattle.apex_explore.proofs.Finding.{Finds-more, Finds-past}
 use Rattle.apex_explore.proofs.parts.expand_batch.Goals as goal
 
@@ -34,3 +35,6 @@ loop-at-preserved g c =
       workspace = c.in_ok-hit.ensures.workspace;
       filling = c.in_ok-hit.ensures.finds;
     }
+
+pub returns-clause-expansion : goal.returns-clause-expansion
+returns-clause-expansion g c = search (pieces, arith)

@@ -1,5 +1,6 @@
 use Rattle.std.proofs.Common.{◌≡◌, ◌+◌, ◌<◌, ◌≤◌, ◌∙◌, ap, length, slice_index_or, sym, refl, arith}
 use Rattle.apex_machine.specs.processes.Roster.{record_at}
+use Rattle.std.proofs.lemmas.Grind.{common_steps}
 use Rattle.apex_forms.proofs.Ranking.{alone_at, counted_alone, none_older, older_few, ranking_ends, step_apart, step_level, step_older, step_younger, vie_at, vies_as}
 use Rattle.apex_types.specs.declared.limits.TheConstants.{MOST_PROCESSES}
 use Rattle.apex_forms.proofs.forms.older_rivals.Goals as goal
@@ -78,3 +79,6 @@ loop-other-preserved c =
 pub returns-clause-ranks : goal.returns-clause-ranks
 returns-clause-ranks c =
     ranking_ends c.args.store.now c.loop-other.ranks c.args.place c.loop-other.other c.loop-other.invariant.1 c.loop-other-test.false
+
+pub overflow_add-older : goal.overflow_add-older
+overflow_add-older c = grind (arith, common_steps)

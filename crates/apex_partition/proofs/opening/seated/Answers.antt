@@ -3,6 +3,7 @@ use Rattle.std.proofs.Common.{◌≡◌, ℕ, ◌<◌, ◌++◌, ap, sym, ◌∙
 use Rattle.std.specs.Prelude.{List}
 use Rattle.std.specs.Vec.Iter.{into_iter_items}
 use Rattle.apex_receipts.specs.Receipts.{Spoken}
+use Rattle.std.proofs.lemmas.Grind.{common_steps}
 use Rattle.apex_partition.proofs.Seated.{unspoken_at}
 use Rattle.apex_partition.proofs.opening.seated.Given.{Over}
 use Rattle.apex_partition.proofs.opening.seated.Goals.{After-len}
@@ -29,3 +30,9 @@ new-requires-clause-who g c =
 pub new-requires-clause-core : goal.new-requires-clause-core
 new-requires-clause-core g c =
     omega (arith, (next_core g (goal.at.new-requires-clause-core g c).After-len).1, c.new-core.ensures)
+
+pub loop-voice-preserved : goal.loop-voice-preserved
+loop-voice-preserved g c = grind (arith, common_steps)
+
+pub returns : goal.returns
+returns g c = grind (arith, common_steps)

@@ -1,6 +1,7 @@
 use Rattle.std.proofs.Common.{arith}
 use Rattle.apex_machine.specs.processes.Roster.{opening_record}
 use Rattle.apex_types.proofs.Places.{map_places_more}
+use Rattle.std.proofs.lemmas.Grind.{common_steps}
 use Rattle.apex_store.proofs.opening.opening_records.Goals as goal
 
 pub loop-place-preserved : goal.loop-place-preserved
@@ -11,3 +12,6 @@ loop-place-preserved c =
       many = omega arith;
       room = omega arith;
     }
+
+pub returns-clause-records : goal.returns-clause-records
+returns-clause-records c = grind (arith, common_steps)

@@ -1,4 +1,4 @@
-use Rattle.std.proofs.Common.{◌≡◌, ◌∙◌, Ok, map, refl, sym, ap, subst, rules}
+use Rattle.std.proofs.Common.{◌≡◌, ◌∙◌, Ok, map, refl, sym, ap, subst, rules, arith}
 use Rattle.apex_machine.specs.table.Table.{IsLawful}
 use Rattle.apex_table.specs.Names.{names_of}
 use Rattle.apex_table.specs.Processes.{ProcessDraft}
@@ -7,6 +7,7 @@ use Rattle.apex_table.specs.Scripts.{with_scripts}
 use Rattle.apex_table.specs.Init.{init_list}
 use Rattle.apex_configs.specs.Tables.{table_with}
 use Rattle.apex_table.specs.Reading.{TableDraft, with_steps}
+use Rattle.std.proofs.lemmas.Grind.{common_steps}
 use Rattle.apex_table.proofs.KeptTexts.{kept_texts}
 use Rattle.apex_table.proofs.Law.{lawful_of}
 use Rattle.apex_table.proofs.reading.with_steps.Goals as goal
@@ -29,3 +30,7 @@ new-requires c =
           ∙ ap (λ (d : TableDraft). map (λ (p : ProcessDraft). p.script) d.processes) c.draft.view_is
           ∙ kept_texts draft.profile draft.cores draft.limit draft.processes processes draft.objects init draft.init lawful scripts steps;
     })
+
+pub init_list-requires-clause-texts : goal.init_list-requires-clause-texts
+unfolding with_steps
+init_list-requires-clause-texts c = grind (arith, common_steps)

@@ -1,8 +1,9 @@
-use Rattle.std.proofs.Common.{rules, ◌≡◌, length, sym, ap, ◌∙◌}
+use Rattle.std.proofs.Common.{rules, ◌≡◌, length, sym, ap, ◌∙◌, arith}
 use Rattle.apex_states.specs.States.{Reached}
 use Rattle.apex_explore.specs.Systems.{step_within}
 use Rattle.apex_states.specs.declared.states.Origin.{Origin}
 use Rattle.apex_states.proofs.Halving.{given_back}
+use Rattle.std.proofs.lemmas.Grind.{pieces}
 use Rattle.apex_explore.proofs.Weaker.{over_first, searched_first}
 use Rattle.apex_explore.proofs.searches.Search.new.Goals as goal
 
@@ -33,3 +34,21 @@ returns-clause-searched g c =
     let origin : Origin = record { parent = 0; choice = 0 } in
     rw (← c.first.ensures.start) (searched_first step c.first.new.state c.in_ok-states.states origin c.in_ok-keep.field-0 c.keep.new.self c.first-2.result
     (ap (λ (s : Reached). s.states) c.in_ok-states.ensures) (ap (λ (s : Reached). s.origins) c.in_ok-states.ensures) c.in_ok-keep.ensures c.first-2.ensures)
+
+pub returns-in_err-state-clause-over : goal.returns-in_err-state-clause-over
+returns-in_err-state-clause-over g c = search (pieces, arith)
+
+pub returns-in_err-state-clause-searched : goal.returns-in_err-state-clause-searched
+returns-in_err-state-clause-searched g c = search (pieces, arith)
+
+pub returns-in_err-state-clause-room : goal.returns-in_err-state-clause-room
+returns-in_err-state-clause-room g c = search (pieces, arith)
+
+pub returns-in_err-keep-clause-over : goal.returns-in_err-keep-clause-over
+returns-in_err-keep-clause-over g c = search (pieces, arith)
+
+pub returns-in_err-keep-clause-searched : goal.returns-in_err-keep-clause-searched
+returns-in_err-keep-clause-searched g c = search (pieces, arith)
+
+pub returns-in_err-keep-clause-room : goal.returns-in_err-keep-clause-room
+returns-in_err-keep-clause-room g c = search (pieces, arith)

@@ -1,9 +1,10 @@
 -- The bytes that one write took are the front of the rest.
-use Rattle.std.proofs.Common.{rules, ◌≡◌, ℕ, ◌-◌, ◌<◌, List, ◌++◌, length, take, drop, sym, ap, subst, ◌∙◌, append_assoc, take-append-drop}
+use Rattle.std.proofs.Common.{rules, ◌≡◌, ℕ, ◌-◌, ◌<◌, List, ◌++◌, length, take, drop, sym, ap, subst, ◌∙◌, append_assoc, take-append-drop, arith}
 use Rattle.std.proofs.lemmas.Result.{err_from_is_err_and}
 use Rattle.std.proofs.lemmas.List.{nil_from_length, take_rest}
 use Rattle.std.proofs.KnownBytes.{Appends-trans}
 use Rattle.apex_history.specs.Counted.{inner_of, Writes, whole, part, failed}
+use Rattle.std.proofs.lemmas.Grind.{common_steps}
 use Rattle.apex_history.proofs.counting.CountedWrite.write_all.Goals as goal
 
 front_moved : (all done rest : List ℕ) (n : ℕ) → all ≡ done ++ rest → all ≡ (done ++ take n rest) ++ take (length rest - n) (drop n rest)
@@ -34,3 +35,6 @@ pub returns-clause-given : goal.returns-clause-given
 returns-clause-given g c =
     let none : length c.loop-rest.rest.now ≡ 0 = search rules in
     c.loop-rest.invariant.given _ _ (subst (λ (l : List ℕ). Writes g.W.Sink.accepts (inner_of c.loop-rest.self) l _ (inner_of c.loop-rest.self)) (sym (nil_from_length _ none)) whole)
+
+pub returns-clause-bytes : goal.returns-clause-bytes
+returns-clause-bytes g c = grind (arith, common_steps)

@@ -1,6 +1,7 @@
 use Rattle.std.proofs.Common.{◌+◌, ◌∙◌, arith}
 use Rattle.apex_links.specs.declared.numbers.TheConstants.{READY_LISTS}
 use Rattle.apex_links.proofs.Places.{as_many_removed}
+use Rattle.std.proofs.lemmas.Grind.{common_steps}
 use Rattle.apex_process.proofs.Emptied.{removed_counted}
 use Rattle.apex_process.proofs.lists.Lists.leave.Goals as goal
 
@@ -16,3 +17,6 @@ invariant_of-self c =
       noted = rw c.leave.ensures.links c.self.invariant.noted;
       few = rw c.leave.ensures.links c.self.invariant.few;
     }
+
+pub invariant_of-self-else-is_ready : goal.invariant_of-self-else-is_ready
+invariant_of-self-else-is_ready c = grind (arith, common_steps)

@@ -1,5 +1,6 @@
 use Rattle.std.proofs.Common.{rules, ◌≡◌, ◌≤◌, replicate, arith}
 use Rattle.std.specs.Vec.{vec_capacity}
+use Rattle.std.proofs.lemmas.Grind.{common_steps}
 use Rattle.apex_states.proofs.Filling.{IsFilling-next, IsFilling-start}
 use Rattle.apex_states.proofs.index.Index.fill.Goals as goal
 
@@ -14,3 +15,9 @@ loop-place-preserved c =
     IsFilling-next c.args.rows.now.rows c.args.size (vec_capacity c.args.self.now.slots) c.loop-place.place c.row.result.now c.free-slot.result
     c.loop-place.self.slots.items c.enter.new.self.slots.items (vec_capacity c.loop-place.self.slots) (vec_capacity c.enter.new.self.slots)
     c.row.ensures.row c.loop-place.invariant c.free-slot.ensures c.enter.ensures.cells c.enter.ensures.memory
+
+pub enter-requires-clause-slot : goal.enter-requires-clause-slot
+enter-requires-clause-slot c = grind (arith, common_steps)
+
+pub returns-clause-indexed : goal.returns-clause-indexed
+returns-clause-indexed c = grind (arith, common_steps)

@@ -1,5 +1,6 @@
 -- The halves of the states are numbered, and their roots are entered.
 use Rattle.std.proofs.Common.{arith}
+use Rattle.std.proofs.lemmas.Grind.{common_steps}
 use Rattle.apex_states.proofs.Rooting.{can_number_left, can_number_right, counts_found, kept_all}
 use Rattle.apex_states.proofs.Storing.{IsStored-held}
 use Rattle.apex_states.proofs.states.States.keep_all.Goals as goal
@@ -52,3 +53,6 @@ returns g c =
     let kept = rw (c.as_slice-3.ensures.value, c.as_slice-4.ensures.value, c.in_ok-origins.ensures.origins) at c.enter_all.ensures in
     rw (← c.self.view_is) (kept_all c.self.inside.roots c.enter_all.new.roots c.self.inside.left c.self.inside.right c.number_both.new.left c.number_both.new.right c.args.expansions.now c.in_ok-lefts.lefts.items c.in_ok-lefts.rights.items c.in_ok-pairs.pairs.items c.enter_all.result
     c.self.invariant numbered.held_left numbered.held_right numbered.left numbered.right wide numbered.lefts numbered.rights paired kept).1
+
+pub enter_all-requires-clause-paired : goal.enter_all-requires-clause-paired
+enter_all-requires-clause-paired g c = grind (arith, common_steps)

@@ -1,6 +1,7 @@
 -- The words of both halves of a state.
-use Rattle.std.proofs.Common.{subst}
+use Rattle.std.proofs.Common.{subst, arith}
 use Rattle.apex_states.specs.Halves.{IsNumber}
+use Rattle.std.proofs.lemmas.Grind.{common_steps}
 use Rattle.apex_states.proofs.Storing.{seen_held, state_here, IsStored-held}
 use Rattle.apex_states.proofs.states.States.restore.Goals as goal
 
@@ -18,3 +19,9 @@ returns-clause-state c =
 
 pub returns-clause-same : goal.returns-clause-same
 returns-clause-same c = rw (← c.self.view_is) (seen_held c.self.inside.roots c.self.inside.left c.self.inside.right c.restore.new.self c.restore-2.new.self c.self.invariant c.restore.ensures.held c.restore-2.ensures.held)
+
+pub number-requires : goal.number-requires
+number-requires c = grind (arith, common_steps)
+
+pub number-requires-2 : goal.number-requires-2
+number-requires-2 c = grind (arith, common_steps)

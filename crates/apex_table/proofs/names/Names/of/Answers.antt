@@ -1,3 +1,5 @@
+use Rattle.std.proofs.Common.{arith}
+use Rattle.std.proofs.lemmas.Grind.{common_steps}
 use Rattle.apex_table.proofs.names.Names.of.Goals as goal
 
 pub returns : goal.returns
@@ -16,3 +18,6 @@ returns c =
       c.deref-4.ensures.value,
       c.deref-5.ensures.value,
     )
+
+pub invariant_of-result : goal.invariant_of-result
+invariant_of-result c = grind (arith, common_steps)

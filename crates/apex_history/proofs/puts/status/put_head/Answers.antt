@@ -1,0 +1,6 @@
+use Rattle.std.proofs.Common.{arith}
+use Rattle.std.proofs.lemmas.Grind.{common_steps}
+use Rattle.apex_history.proofs.puts.status.put_head.Goals as goal
+
+pub returns-clause-text : goal.returns-clause-text
+returns-clause-text g c = grind (arith, common_steps)
