@@ -9,9 +9,20 @@ copy=''                  # the copy of the sources that is being built
 crates=()                # the crates that the program consists of, lowest first
 parts=(crates.txt)       # their folders with sources, and crates.txt
 
-for word in $(sed -n "s/^$name\( [^:]*\)\{0,1\}: //p" "$home/crates.txt") "$name"; do
-    [[ -d $home/crates/$word ]] && crates+=("$word")
-done
+# Prints the program's crate and all that it stands on, lowest first, as crates.txt has them.
+print_crates() {
+    tac "$home/crates.txt" | awk -F: -v name="$name" '
+        BEGIN { needed[name] }
+        /^#/ { next }
+        { split($1, left, " ") }
+        left[1] in needed {
+            print left[1]
+            count = split($2, below, " ")
+            for (i = 1; i <= count; i++) needed[below[i]]
+        }' | tac
+}
+
+mapfile -t crates < <(print_crates)
 for word in "${crates[@]}"; do
     for part in src specs proofs; do
         [[ -d $home/crates/$word/$part ]] && parts+=("crates/$word/$part")
