@@ -32,7 +32,7 @@ fn why_no_name(alloc: Global, name: &str) -> Result<String, AllocError> {
 }
 
 /// What was given, and what is wanted in its place.
-fn wanted_text(alloc: Global, given: &str, wanted: &str) -> Result<String, AllocError> {
+fn given_and_wanted(alloc: Global, given: &str, wanted: &str) -> Result<String, AllocError> {
     format!(in alloc; "{given} is given; {wanted} is wanted")
 }
 
@@ -63,7 +63,7 @@ fn argument_text(
         (Shape::Named(_), TableFault::BadName(_)) => bad_name_text(alloc, word),
         _ => {
             let wanted = wanted_word(alloc, shape)?;
-            wanted_text(alloc, given.as_str(), wanted.as_str())
+            given_and_wanted(alloc, given.as_str(), wanted.as_str())
         }
     }
 }
@@ -126,7 +126,7 @@ fn step_text(alloc: Global, step: Option<&Value>) -> Result<String, AllocError> 
             let arguments = arguments_text(alloc, row)?;
             format!(in alloc; "{given} is given; {arguments}")
         }
-        None => wanted_text(alloc, given.as_str(), "a text"),
+        None => given_and_wanted(alloc, given.as_str(), "a text"),
     }
 }
 
@@ -152,7 +152,7 @@ fn key_text(
         }
         _ => {
             let given = shown(alloc, value)?;
-            wanted_text(alloc, given.as_str(), wanted.as_str())
+            given_and_wanted(alloc, given.as_str(), wanted.as_str())
         }
     }
 }
@@ -187,10 +187,10 @@ fn whole_text(alloc: Global, place: Place, value: Option<&Value>) -> Result<Stri
     let given = shown(alloc, value)?;
     match place.number {
         0 if place.section == Section::Init => {
-            wanted_text(alloc, given.as_str(), "an array of texts")
+            given_and_wanted(alloc, given.as_str(), "an array of texts")
         }
         0 => format!(in alloc; "{given} is given; an array of tables is wanted, as [[{section}]]"),
-        _ => wanted_text(alloc, given.as_str(), "a table"),
+        _ => given_and_wanted(alloc, given.as_str(), "a table"),
     }
 }
 
