@@ -1,4 +1,4 @@
-use Rattle.std.proofs.Common.{[], refl}
+use Rattle.std.proofs.Common.{[], refl, rules}
 use Rattle.apex_machine.specs.processes.Roster.{record_at}
 use Rattle.apex_machine.specs.processes.Stamps.{stopped}
 use Rattle.apex_machine.proofs.Replaces.{replaces_record}
@@ -20,3 +20,6 @@ invariant_of-self c =
       owners_changed was _ _ _ _ c.args.process [] c.self.invariant.2 c.stop.ensures (disowns_by has)
           c.leave-2.ensures.here (λ m q _. c.leave-2.ensures.others m q),
     )
+
+pub leave-requires-2-clause-held : goal.leave-requires-2-clause-held
+leave-requires-2-clause-held c = search rules
