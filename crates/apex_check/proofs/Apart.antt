@@ -5,8 +5,9 @@ use Rattle.std.proofs.lemmas.Grind.{flat_map-append}
 use Rattle.apex_machine.specs.table.Table.{Table}
 use Rattle.apex_table.specs.Reading.{table_of}
 use Rattle.apex_words.specs.declared.TableFault.{TableFault}
-use Rattle.apex_check.specs.Texts.{BeginsWithTable, HasNoSeparator, IsOfTable, IsOneLine, IsParted, ended, line_feeds, separator, text_of}
-use Rattle.apex_check.proofs.FirstLines.{feeds_append, feeds_cons, feeds_ended, same_first, some_feed}
+use Rattle.apex_check.specs.Texts.{BeginsWithTable, HasNoSeparator, IsOfTable, IsParted, separator}
+use Rattle.apex_incoming.specs.Lines.{IsOneLine, ended, line_feeds, text_of}
+use Rattle.apex_incoming.proofs.FirstLines.{feeds_append, feeds_cons, feeds_ended, same_first, some_feed}
 
 -- the first of lines, and the lines behind it
 pub first_of_lines : (line : List ℕ) (lines : List (List ℕ)) → text_of (line ∷ lines) ≡ line ++ (10 ∷ text_of lines)

@@ -9,13 +9,14 @@ use Rattle.apex_history.specs.Ports.{AWriteFails, NoneFails, Ports}
 use Rattle.apex_check.specs.declared.verdicts.Verdict.{Verdict}
 use Rattle.apex_check.specs.declared.verdicts.CheckFault.{CheckFault}
 use Rattle.apex_check.specs.declared.verdicts.CheckFault.TheVariants.{Memory, Read, Write}
-use Rattle.apex_check.specs.Ahead.{IsAhead}
+use Rattle.apex_incoming.specs.Ahead.{IsAhead}
 use Rattle.apex_check.specs.Checks.{Checks, no_memory, refused, unread, unwritten, written}
 use Rattle.apex_check.specs.Faults.{CountsRead, IsFaultOf}
 use Rattle.apex_check.specs.Steps.{IsLineFaultOf}
-use Rattle.apex_check.specs.Texts.{IsTableText, ended, separator}
+use Rattle.apex_check.specs.Texts.{IsTableText, separator}
+use Rattle.apex_incoming.specs.Lines.{ended}
 use Rattle.apex_check.specs.Verdicts.{HasFollowed, JudgesLines, at_line, verdict_text}
-use Rattle.apex_check.proofs.Coming.{ahead_more}
+use Rattle.apex_incoming.proofs.Coming.{ahead_more}
 
 -- nothing was read ahead
 pub nothing_ahead : (pending : List ℕ) (left : Option (List ℕ)) → length pending ≡ 0 → prepend_known pending left ≡ left

@@ -13,9 +13,9 @@ use Rattle.apex_laws.proofs.Runs.{accept-full, accept-room, length-happen, run-a
 use Rattle.apex_history.specs.declared.LineFault.{LineFault}
 use Rattle.apex_history.specs.declared.LineFault.TheVariants.{TooLong}
 use Rattle.apex_check.specs.Histories.{Follows, IsNext, event_named, history_of}
-use Rattle.apex_check.specs.Texts.{IsOneLine, ended, line_feeds, text_of}
+use Rattle.apex_incoming.specs.Lines.{IsOneLine, ended, line_feeds, text_of}
 use Rattle.apex_check.proofs.Apart.{feeds_text, first_of_lines, no_longer, one_feed, same_lines, some_feeds}
-use Rattle.apex_check.proofs.FirstLines.{same_first}
+use Rattle.apex_incoming.proofs.FirstLines.{same_first}
 use Rattle.apex_check.proofs.MoreLines.{event_adds}
 
 -- The lines behind those of the first events, and the events that they name.

@@ -1,5 +1,3 @@
-pub mod Coming
-pub mod FirstLines
 pub mod Named
 pub mod Separated
 pub mod MoreLines
@@ -7,8 +5,3 @@ pub mod Endings
 pub mod Apart
 pub mod GoesOn
 pub mod Told
-pub mod LineFeeds
-pub mod Windows
-pub mod Spaces
-pub mod Places
-pub mod NearLines

@@ -22,12 +22,12 @@ use Rattle.apex_history.specs.Words.{parts}
 use Rattle.apex_check.specs.declared.verdicts.Verdict.TheVariants.{Legal, DepartsAt}
 use Rattle.apex_check.specs.declared.verdicts.CheckFault.TheVariants.{BadLine, Read, TooLong}
 use Rattle.apex_check.specs.declared.verdicts.CheckFault.{CheckFault}
-use Rattle.apex_check.specs.Ahead.{IsAhead}
+use Rattle.apex_incoming.specs.Ahead.{IsAhead}
 use Rattle.apex_check.specs.Histories.{AreLines, Follows, event_named, history_of, is_of_cores, of_cores}
 use Rattle.apex_check.specs.declared.following.Answer.{Answer}
 use Rattle.apex_check.specs.declared.following.Answer.TheVariants.{Same, Differs, Beyond}
 use Rattle.apex_check.specs.Steps.{Adds, Answers, IsLineFaultOf, Judged, fault_at}
-use Rattle.apex_check.specs.Texts.{IsOneLine, ended}
+use Rattle.apex_incoming.specs.Lines.{IsOneLine, ended}
 use Rattle.apex_check.specs.Verdicts.{JudgesLines, LineIsAtFault, bad, beyond, departs, legal, too_long, unended}
 use Rattle.apex_check.proofs.Separated.{text_more}
 use Rattle.apex_history.proofs.EntriesOf.{last_put}

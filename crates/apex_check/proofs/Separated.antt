@@ -9,15 +9,16 @@ use Rattle.apex_words.specs.Outcome.{Fails}
 use Rattle.apex_table.specs.Reading.{table_of}
 use Rattle.apex_words.specs.declared.TableFault.{TableFault}
 use Rattle.apex_words.specs.declared.TableFault.TheVariants as table_fault
-use Rattle.apex_check.specs.declared.pending.Next.{Next}
-use Rattle.apex_check.specs.declared.pending.Next.TheVariants.{Rest, End}
+use Rattle.apex_incoming.specs.declared.pending.Next.{Next}
+use Rattle.apex_incoming.specs.declared.pending.Next.TheVariants.{Rest, End}
 use Rattle.apex_check.specs.declared.verdicts.CheckFault.TheVariants.{Table}
-use Rattle.apex_check.specs.Ahead.{Comes, IsAhead, IsFirstLine}
+use Rattle.apex_incoming.specs.Ahead.{Comes, IsAhead, IsFirstLine}
 use Rattle.apex_check.specs.Faults.{CountsRead, IsFaultOf}
 use Rattle.apex_check.specs.TableFaults.{fault_of_table}
 use Rattle.apex_check.specs.Verdicts.{IsAtFault}
-use Rattle.apex_check.specs.Texts.{HasNoSeparator, IsOfTable, IsOneLine, IsTableText, ended, separator, text_of}
-use Rattle.apex_check.proofs.FirstLines.{one_line_append}
+use Rattle.apex_check.specs.Texts.{HasNoSeparator, IsOfTable, IsTableText, separator}
+use Rattle.apex_incoming.specs.Lines.{IsOneLine, ended, text_of}
+use Rattle.apex_incoming.proofs.FirstLines.{one_line_append}
 
 -- one line more
 pub text_more : (lines : List (List ℕ)) (line : List ℕ) → text_of (lines ++ line ∷ []) ≡ text_of lines ++ ended line

@@ -4,7 +4,7 @@ use Rattle.apex_history.specs.Counted.{one_more}
 use Rattle.apex_check.specs.declared.verdicts.CheckFault.{CheckFault}
 use Rattle.apex_check.specs.declared.verdicts.CheckFault.TheVariants.{Memory, Table, NoSeparator, BadLine, TooLong, Read, Write}
 use Rattle.apex_words.specs.Fault as tables
-use Rattle.apex_check.specs.Ahead.{IsAhead}
+use Rattle.apex_incoming.specs.Ahead.{IsAhead}
 use Rattle.apex_check.specs.Verdicts.{IsAtFault}
 
 -- a failed read is counted, and nothing else is

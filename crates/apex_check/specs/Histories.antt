@@ -9,7 +9,7 @@ use Rattle.apex_calls.specs.Lines.{lines_of}
 use Rattle.apex_history.specs.ReadLines.{line_result}
 use Rattle.apex_history.specs.declared.LineFault.{LineFault}
 use Rattle.apex_history.specs.declared.LineFault.TheVariants.{BadLine}
-use Rattle.apex_check.specs.Texts.{IsOneLine, text_of}
+use Rattle.apex_incoming.specs.Lines.{IsOneLine, text_of}
 
 -- the event is a tick, or a turn of a core below this number
 abbrev pub is_of_cores : ℕ → Event → Bool

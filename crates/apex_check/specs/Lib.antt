@@ -1,7 +1,5 @@
 pub mod Terms
 pub mod Texts
-pub mod Places
-pub mod Ahead
 pub mod Histories
 pub mod Verdicts
 pub mod Faults

@@ -11,10 +11,10 @@ use Rattle.apex_check.specs.declared.verdicts.Verdict.{Verdict}
 use Rattle.apex_check.specs.declared.verdicts.Verdict.TheVariants.{Legal, DepartsAt}
 use Rattle.apex_check.specs.declared.verdicts.CheckFault.{CheckFault}
 use Rattle.apex_check.specs.declared.verdicts.CheckFault.TheVariants.{Read, BadLine, TooLong}
-use Rattle.apex_check.specs.Ahead.{IsAhead}
+use Rattle.apex_incoming.specs.Ahead.{IsAhead}
 use Rattle.apex_history.specs.declared.LineFault.{LineFault}
 use Rattle.apex_history.specs.declared.LineFault.TheVariants as line_fault
-use Rattle.apex_check.specs.Texts.{ended}
+use Rattle.apex_incoming.specs.Lines.{ended}
 use Rattle.apex_check.specs.Histories.{AreLines}
 use Rattle.apex_check.specs.Verdicts.{JudgesLines, LineIsAtFault}
 

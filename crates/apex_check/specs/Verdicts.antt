@@ -13,7 +13,8 @@ use Rattle.apex_check.specs.declared.verdicts.Verdict.{Verdict}
 use Rattle.apex_check.specs.declared.verdicts.Verdict.TheVariants.{Legal, DepartsAt}
 use Rattle.apex_check.specs.declared.verdicts.CheckFault.{CheckFault}
 use Rattle.apex_check.specs.declared.verdicts.CheckFault.TheVariants.{Table as BadTable, NoSeparator, BadLine, TooLong}
-use Rattle.apex_check.specs.Texts.{IsOneLine, ended, IsParted, HasNoSeparator, BeginsWithTable}
+use Rattle.apex_check.specs.Texts.{IsParted, HasNoSeparator, BeginsWithTable}
+use Rattle.apex_incoming.specs.Lines.{IsOneLine, ended}
 use Rattle.apex_check.specs.Histories.{Follows, IsNext, event_named}
 
 -- the text of the machine's line in a verdict, with its line feed

@@ -6,20 +6,19 @@ ghost use Rattle.apex_machine.specs.Machine.{opening, accept, events_of};
 ghost use Rattle.apex_machine.specs.Events.{IsWithin};
 ghost use Rattle.apex_dispatch.specs.Kernel.{kernel_in};
 ghost use Rattle.apex_history.specs.Counted.{inner_of, failures_of};
-ghost use Rattle.apex_check.specs.Ahead.{IsAhead};
+ghost use Rattle.apex_incoming.specs.Ahead.{IsAhead};
 ghost use Rattle.apex_check.specs.Faults.{CountsCheck};
 ghost use Rattle.apex_check.specs.Histories.{AreLines, event_named, is_of_cores};
 ghost use Rattle.apex_check.specs.Steps.{Answers, IsLineFaultOf, IsOfLine, IsTellable, Judged, departure, fault_at};
 ghost use Rattle.apex_check.specs.declared.following.Answer.TheVariants.{Same};
-ghost use Rattle.apex_check.specs.Texts.{IsOneLine, ended};
+ghost use Rattle.apex_incoming.specs.Lines.{IsOneLine, ended};
 ghost use Rattle.apex_check.specs.Verdicts.{JudgesLines};
 
 use crate::expected::ExpectedLines;
-use crate::leading::turn_ahead;
-use crate::pending::{Next, Pending};
 use crate::verdicts::{CheckFault, Verdict};
 use apex_dispatch::Kernel;
 use apex_history::{Counted, LineFault, Source, read_line};
+use apex_incoming::{Next, Pending, turn_ahead};
 use apex_store::Store;
 use apex_types::Event;
 

@@ -4,13 +4,9 @@
 mod checking;
 mod expected;
 mod following;
-mod lanes;
-mod leading;
-mod pending;
 mod tables;
 mod verdicts;
 
 pub use checking::{Followed, check, follow};
-pub use pending::{Next, Pending};
 pub use tables::leading_table;
 pub use verdicts::{CheckFault, Verdict, verdict_text};

@@ -4,12 +4,13 @@ ghost use Rattle.std.specs.Io.KnownBytes.{Consumes, prepend_known};
 ghost use Rattle.apex_table.specs.Reading.{table_of};
 ghost use Rattle.apex_history.specs.Counted.{inner_of, failures_of};
 ghost use Rattle.apex_check.specs.Faults.{CountsCheck, IsFaultOf};
-ghost use Rattle.apex_check.specs.Texts.{IsTableText, ended, separator};
+ghost use Rattle.apex_check.specs.Texts.{IsTableText, separator};
+ghost use Rattle.apex_incoming.specs.Lines.{ended};
 
-use crate::pending::{Next, Pending};
 use crate::verdicts::CheckFault;
 use apex_configs::Table;
 use apex_history::{Counted, Source};
+use apex_incoming::{Next, Pending};
 use apex_table::read_table;
 use std::alloc::{AllocError, Global};
 

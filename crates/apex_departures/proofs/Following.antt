@@ -3,7 +3,7 @@ use Rattle.std.proofs.Common.{◌≡◌, ◌∙◌, ℕ, ◌+◌, ◌≤◌, ◌
 use Rattle.apex_machine.specs.table.Table.{Table}
 use Rattle.apex_machine.specs.Machine.{Machine, events_of, happen, opening, run}
 use Rattle.apex_laws.proofs.Runs.{accept-room, length-happen}
-use Rattle.apex_check.specs.Ahead.{IsAhead}
+use Rattle.apex_incoming.specs.Ahead.{IsAhead}
 use Rattle.apex_check.specs.Faults.{IsFaultOf}
 use Rattle.apex_check.specs.Histories.{history_of}
 use Rattle.apex_check.specs.Terms.{Event}

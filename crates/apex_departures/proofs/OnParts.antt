@@ -3,7 +3,8 @@ use Rattle.std.proofs.Common.{◌≡◌, ◌∙◌, ℕ, suc, ◌+◌, ◌<◌, 
 use Rattle.std.specs.Prelude.{◌==◌, if◌then◌else◌, slice_index_or}
 use Rattle.std.specs.Str.{bytes_eq}
 use Rattle.std.proofs.lemmas.List.Splits.{length-slice_split}
-use Rattle.apex_check.specs.Texts.{ended, separator}
+use Rattle.apex_check.specs.Texts.{separator}
+use Rattle.apex_incoming.specs.Lines.{ended}
 use Rattle.apex_departures.specs.Lines.{behind_separator, history_text, kept_text, line_parts, more_behind, part_given, place_given, place_on, text_without}
 
 -- a text has a part

@@ -3,7 +3,8 @@
 use Rattle.std.specs.Prelude.{ℕ, zero, suc, ◌+◌, ◌-◌, ◌^◌, min, Bool, true, ◌==◌, ◌&&◌, if◌then◌else◌, List, [], ◌∷◌, ◌++◌, Option, None, Some, slice_index_or}
 use Rattle.std.specs.Str.{bytes_eq}
 use Rattle.apex_history.specs.Words.{parts}
-use Rattle.apex_check.specs.Texts.{ended, separator}
+use Rattle.apex_check.specs.Texts.{separator}
+use Rattle.apex_incoming.specs.Lines.{ended}
 
 -- the lines of a text, and what stands behind them
 abbrev pub line_parts : List ℕ → List (List ℕ)

@@ -1,7 +1,8 @@
 //! The lines of a text, of which comments may be left out behind the separator.
 ghost use Rattle.std.specs.Prelude.{◌≡◌, ◌-◌, ◌<◌, [], ◌∷◌, ◌++◌, length, Bool, None, IfOk, IfSome, OnOk};
 ghost use Rattle.std.specs.Str.{bytes_eq};
-ghost use Rattle.apex_check.specs.Texts.{ended, separator};
+ghost use Rattle.apex_check.specs.Texts.{separator};
+ghost use Rattle.apex_incoming.specs.Lines.{ended};
 ghost use Rattle.apex_departures.specs.Lines.{behind_separator, followed_text, given_parts, history_text, is_comment, is_left_out, kept_text, line_parts, more_behind, number_given, part_given, text_without};
 
 use apex_history::cut;

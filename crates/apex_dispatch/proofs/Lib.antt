@@ -2,4 +2,3 @@ pub mod Accepted
 pub mod Steps
 pub mod MachineSteps
 pub mod Replays
-pub mod Gathering

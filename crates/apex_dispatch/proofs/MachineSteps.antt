@@ -1,13 +1,13 @@
 -- The situation of a machine steps as the machine does, and a situation whose deed was done is the
 -- next one.
-use Rattle.std.proofs.Common.{◌≡◌, ◌∙◌, ◌+◌, ℕ, List, [], ◌∷◌, ◌++◌, length, Option, None, option_map, if◌then◌else◌, refl, sym, ap, arith}
+use Rattle.std.proofs.Common.{◌≡◌, ◌∙◌, ◌+◌, ℕ, List, [], ◌∷◌, length, Option, None, option_map, if◌then◌else◌, refl, sym, ap, arith}
 use Rattle.std.proofs.Math.Path.{fun_ext}
 use Rattle.std.proofs.lemmas.List.Sums.{sum_by-append}
 use Rattle.apex_types.specs.declared.entries.Event.TheVariants.{Turn, Tick}
 use Rattle.apex_types.specs.declared.entries.Who.TheVariants.{Core, Ticker}
 use Rattle.apex_machine.specs.Deeds.{Deed, Objects}
 use Rattle.apex_machine.specs.History.{init_count}
-use Rattle.apex_machine.specs.Machine.{Machine, after_deed, entry_of, happen, objects_after, opening, open_work, situation_of, tick, turn}
+use Rattle.apex_machine.specs.Machine.{Machine, after_deed, entry_of, happen, objects_after, opening, situation_of, tick, turn}
 use Rattle.apex_machine.specs.Situations.{Situation, after, deed, step}
 use Rattle.apex_machine.specs.Works.{fresh, is_turn_of, watched, work_begun}
 use Rattle.apex_machine.specs.processes.Roster.{Roster, opening_roster}

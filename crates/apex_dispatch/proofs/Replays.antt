@@ -1,8 +1,7 @@
 -- The facts that a kernel keeps: its history replays, its situation is the machine's and can go on,
 -- and all that holds after every run holds.
-use Rattle.std.proofs.Common.{◌≡◌, ℕ, ◌+◌, ◌-◌, ◌*◌, ◌<◌, ◌≤◌, Option, arith, List, [], ◌∷◌, ◌++◌, length, length-append, ap, refl, sym, ◌∙◌, subst}
+use Rattle.std.proofs.Common.{◌≡◌, ℕ, ◌+◌, ◌-◌, ◌*◌, ◌<◌, ◌≤◌, Option, arith, List, [], ◌∷◌, ◌++◌, length, ap, refl, sym, ◌∙◌, subst}
 use Rattle.std.proofs.lemmas.List.Elements.{All-nil, All-push}
-use Rattle.std.proofs.lemmas.Int.{ints}
 use Rattle.apex_types.specs.declared.entries.Event.TheVariants.{Turn, Tick}
 use Rattle.apex_types.specs.declared.limits.TheConstants.{MOST_TICKS}
 use Rattle.apex_laws.specs.Terms.{Call, Caller, Entry, Event, Notice, Reply}

@@ -2,4 +2,3 @@ pub mod Deeds
 pub mod Works
 pub mod Situations
 pub mod Kernel
-pub mod Sections

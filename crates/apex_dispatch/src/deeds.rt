@@ -17,10 +17,9 @@ ghost use Rattle.apex_machine.specs.Works.{work_begun};
 ghost use Rattle.apex_dispatch.specs.Deeds.{Asks, Does};
 ghost use Rattle.apex_laws.specs.Premises.{AreOf, IsKnownTo};
 
-use crate::objects::Objects;
-use crate::services::serve;
 use apex_configs::{ProcessConfig, Table};
 use apex_machine::{OpenWork, Work};
+use apex_services::{Objects, serve};
 use apex_store::Store;
 use apex_types::{Call, Caller, CallerCall, CoreId, Notices, ProcessId, Reply};
 

@@ -17,10 +17,10 @@ ghost use Rattle.apex_dispatch.specs.Kernel.{kernel_in};
 ghost use Rattle.apex_dispatch.specs.Situations.{situation_in};
 
 use crate::deeds::Deed;
-use crate::listing::Listing;
 use crate::situations::Situation;
 use apex_configs::Table;
 use apex_history::{Counted, Entries, Log, Page, Sink};
+use apex_services::Listing;
 use apex_store::Store;
 use apex_types::{BufferId, CoreId, Event, Full, LentEntry, Notices, SemaphoreId, Who};
 use std::alloc::{AllocError, Global};

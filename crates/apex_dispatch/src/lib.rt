@@ -5,12 +5,8 @@ mod deeds;
 mod events;
 mod kernels;
 mod laws;
-mod listing;
-mod objects;
-mod services;
 mod situations;
 mod ticks;
-mod waiters;
 mod works;
 
 pub use deeds::Deed;
@@ -20,8 +16,5 @@ pub use laws::{
     first_waiter_is_first, most_urgent_runs, mutexes_are_owned_in_order, nobody_waits_in_vain,
     values_and_dues_are_in_range,
 };
-pub use objects::Objects;
-pub use services::ProcessObject;
 pub use situations::Situation;
-pub use waiters::{Waiters, waiters_in};
 pub use works::Works;

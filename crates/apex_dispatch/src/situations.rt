@@ -14,11 +14,11 @@ ghost use Rattle.apex_laws.specs.GoesOn.{CanGoOn};
 ghost use Rattle.apex_dispatch.specs.Situations.{situation_in, situation_with};
 
 use crate::deeds::{Deed, carry_out};
-use crate::objects::Objects;
 use crate::ticks::pass_time;
 use crate::works::Works;
 use apex_configs::Table;
 use apex_machine::OpenWork;
+use apex_services::Objects;
 use apex_store::Store;
 use apex_types::{Call, Caller, CoreId, Mode, Notices, Reply};
 use std::alloc::{AllocError, Global};

@@ -7,10 +7,10 @@ ghost use Rattle.apex_forms.specs.Objects.{blackboard_from, blackboard_words, bu
 use crate::codes::{flag_word, is_set, message_in, message_word};
 use crate::parts::{Stored, put};
 use apex_buffer::Buffer;
-use apex_dispatch::ProcessObject;
 use apex_flags::{Blackboard, EventFlag};
 use apex_mutex::Mutex;
 use apex_semaphore::Semaphore;
+use apex_services::ProcessObject;
 use apex_store::Object;
 use apex_types::{MOST_MESSAGES, Message};
 use arrayvec::ArrayVec;

@@ -18,8 +18,9 @@ use crate::records::{RECORD_WORDS, is_created_in, record_from};
 use crate::stored::{CORE_WORDS, HEAD_WORDS};
 use apex_choices::{Counts, PacedSituation};
 use apex_configs::Table;
-use apex_dispatch::{Objects, ProcessObject, Situation, Works};
+use apex_dispatch::{Situation, Works};
 use apex_machine::{OpenWork, Work};
+use apex_services::{Objects, ProcessObject};
 use apex_store::{PlainStore, Store};
 use apex_types::{CoreId, MOST_CORES, ProcessId, Span};
 

@@ -16,9 +16,9 @@ use crate::parts::{put, put_all};
 use crate::records::{RECORD_WORDS, record_words};
 use apex_choices::PacedSituation;
 use apex_configs::Table;
-use apex_dispatch::{Objects, ProcessObject};
 use apex_machine::OpenWork;
 use apex_pace::Pace;
+use apex_services::{Objects, ProcessObject};
 use apex_store::{Object, PlainStore, Store};
 use apex_types::{CoreId, MOST_PROCESSES, ProcessId};
 

@@ -1,7 +1,7 @@
 -- The ways in which a search ends, by what was at fault.
 use Rattle.std.proofs.Common.{◌≡◌, inl, inr, List, ℕ}
 use Rattle.std.specs.Io.KnownBytes.{Appends, Keeps}
-use Rattle.apex_check.specs.Ahead.{IsAhead}
+use Rattle.apex_incoming.specs.Ahead.{IsAhead}
 use Rattle.apex_console.specs.Faults.{fault_of_read}
 use Rattle.apex_console.specs.declared.CliFault.TheVariants.{Write}
 use Rattle.apex_history.specs.Counted.{AppendsBeginning, CountsFault}

@@ -2,7 +2,7 @@
 use Rattle.std.specs.Prelude.{◌≡◌, ◌⊎◌, ℕ, List, [], ◌∷◌, Option, None, Some, Ok, Err, option_map}
 use Rattle.std.specs.Io.KnownBytes.{Appends, Keeps}
 use Rattle.clap.specs.Words.{Text}
-use Rattle.apex_check.specs.Ahead.{IsAhead}
+use Rattle.apex_incoming.specs.Ahead.{IsAhead}
 use Rattle.apex_console.specs.declared.CliFault.{CliFault}
 use Rattle.apex_console.specs.declared.CliFault.TheVariants.{HistoryFull, Memory, Read, Table as Refused, Write}
 use Rattle.apex_history.specs.Counted.{AppendsBeginning}

@@ -3,7 +3,7 @@ use Rattle.std.specs.Prelude.{ℕ, List}
 use Rattle.std.specs.Io.KnownBytes.{Appends, Keeps}
 use Rattle.apex_history.specs.Counted.{AppendsBeginning}
 use Rattle.apex_history.specs.Ports.{AReadFails, AWriteFails, NoneFails, Ports}
-use Rattle.apex_check.specs.Ahead.{IsAhead}
+use Rattle.apex_incoming.specs.Ahead.{IsAhead}
 use Rattle.apex_console.specs.declared.CliFault.TheVariants.{Memory, Read, Write}
 use Rattle.apex_lint.specs.Reports.{IsReportOn}
 use Rattle.apex_lint.specs.declared.Report.{Report}

@@ -5,7 +5,7 @@ ghost use Rattle.apex_moments.specs.Counts.{counts_in, counts_of, owners_in};
 
 use crate::kinds::Kind;
 use apex_configs::Table;
-use apex_dispatch::Objects;
+use apex_services::Objects;
 use apex_store::Store;
 use apex_types::{MOST_OBJECTS, MutexId, ProcessId};
 use arrayvec::ArrayVec;

@@ -4,7 +4,7 @@ ghost use Rattle.apex_types.specs.declared.limits.TheConstants.{MOST_OBJECTS};
 ghost use Rattle.apex_moments.specs.Counts.{content_of, count_of, displayed_on, object_count, raised_of, value_of};
 
 use apex_configs::Table;
-use apex_dispatch::Objects;
+use apex_services::Objects;
 use apex_types::{BlackboardId, BufferId, EventId, SemaphoreId};
 
 /// A kind of objects that have a count.

@@ -1,7 +1,7 @@
 -- The sections one behind the other are the listing.
 use Rattle.std.proofs.Common.{◌≡◌, ℕ, List, [], ◌++◌, refl, append_assoc, append-nil}
 use Rattle.std.specs.Prelude.{flat_map}
-use Rattle.apex_dispatch.specs.Sections.{Listed}
+use Rattle.apex_services.specs.Sections.{Listed}
 use Rattle.apex_objects.specs.Listing.{head_objects, listing_objects_of}
 use Rattle.apex_objects.specs.Sections.{section_text, sections}
 use Rattle.apex_objects.specs.declared.listing.Section.TheVariants.{Cores, Processes, Semaphores, Buffers, Blackboards, EventFlags, Mutexes}

@@ -1,7 +1,7 @@
 -- The sections of the listing, and their order (this profile).
 use Rattle.std.specs.Prelude.{ℕ, List, [], ◌∷◌, length}
 use Rattle.apex_machine.specs.text.Listing.{texts_of}
-use Rattle.apex_dispatch.specs.Sections.{Listed}
+use Rattle.apex_services.specs.Sections.{Listed}
 use Rattle.apex_objects.specs.declared.listing.Section.{Section}
 use Rattle.apex_objects.specs.declared.listing.Section.TheVariants.{Head, Cores, Processes, Semaphores, Buffers, Blackboards, EventFlags, Mutexes}
 use Rattle.apex_objects.specs.Listing.{head_objects, core_listed, process_listed, semaphore_listed, buffer_listed, blackboard_listed, event_flag_listed, mutex_listed}

@@ -17,9 +17,10 @@ use crate::rows::{
 };
 use crate::writing::{hand_on, make_room};
 use apex_configs::Table;
-use apex_dispatch::{Kernel, Objects, waiters_in};
+use apex_dispatch::Kernel;
 use apex_history::{Counted, Sink};
 use apex_machine::Queue;
+use apex_services::{Objects, waiters_in};
 use apex_store::{Object, Store};
 use apex_types::{BlackboardId, BufferId, CoreId, EventId, MutexId, ProcessId, SemaphoreId};
 use std::io::Result;
@@ -62,7 +63,7 @@ struct Listing<'a, S: Store> {
 }
 
 impl<'a, S: Store> Model for Listing<'a, S> {
-    ghost use Rattle.apex_dispatch.specs.Sections.{Listed, IsListable};
+    ghost use Rattle.apex_services.specs.Sections.{Listed, IsListable};
 
     ghost Value = { Listed };
 

@@ -17,10 +17,10 @@ ghost use Rattle.apex_reasons.specs.Premises.{AreOfTable, buffer_in};
 use crate::rules::{Rule, WaitCause, at_once};
 use apex_buffer::Buffer;
 use apex_configs::Table;
-use apex_dispatch::Objects;
 use apex_flags::{Blackboard, EventFlag};
 use apex_machine::{Queue, Wait};
 use apex_semaphore::Semaphore;
+use apex_services::Objects;
 use apex_store::Store;
 use apex_types::{
     BlackboardCall, BlackboardService, BufferCall, BufferId, BufferService, Call, Caller,

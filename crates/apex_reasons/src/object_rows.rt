@@ -10,11 +10,11 @@ ghost use Rattle.apex_reasons.specs.ObjectRows.{common_row, no_entry_row, core_r
 use crate::callers::{is_by_process, is_no_process};
 use crate::guards::Guard;
 use apex_buffer::Buffer;
-use apex_dispatch::ProcessObject;
 use apex_flags::{Blackboard, EventFlag};
 use apex_machine::{Queue, Record};
 use apex_mutex::Mutex;
 use apex_semaphore::Semaphore;
+use apex_services::ProcessObject;
 use apex_store::{Object, Store, is_unfit, is_waiting_owner};
 use apex_types::{
     BlackboardService, BufferService, Caller, EventFlagService, Id, MOST_DEPTH, MOST_PRIORITY,

@@ -16,8 +16,9 @@ use crate::effects::effect_of_call;
 use crate::rows::first_guard;
 use crate::rules::{Rule, idle_rule};
 use apex_configs::Table;
-use apex_dispatch::{Kernel, Objects, Situation};
+use apex_dispatch::{Kernel, Situation};
 use apex_machine::OpenWork;
+use apex_services::Objects;
 use apex_store::Store;
 use apex_types::{Call, Caller, CallerCall, CoreId, Event, ProcessId};
 

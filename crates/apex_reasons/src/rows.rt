@@ -24,10 +24,10 @@ use crate::object_rows::{
 };
 use apex_buffer::Buffer;
 use apex_configs::Table;
-use apex_dispatch::{Objects, ProcessObject};
 use apex_flags::{Blackboard, EventFlag};
 use apex_mutex::Mutex;
 use apex_semaphore::Semaphore;
+use apex_services::{Objects, ProcessObject};
 use apex_store::{Store, is_owner};
 use apex_types::{
     BlackboardCall, BufferCall, Call, Caller, CallerCall, EventFlagCall, MutexCall, ObjectCall,

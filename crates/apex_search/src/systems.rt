@@ -20,7 +20,6 @@ use crate::questions::Question;
 use crate::steps::{make, step};
 use apex_choices::PacedSituation;
 use apex_configs::Table;
-use apex_dispatch::{Objects, ProcessObject};
 use apex_explore::{Answer, System, Taken, Watch};
 use apex_forms::{
     canonical_form, forms_are_ready, forms_reach, parts_are_kept, put_words, restore,
@@ -29,6 +28,7 @@ use apex_forms::{
 use apex_jobs::Jobs;
 use apex_pace::Pace;
 use apex_questions::{Fact, Facts};
+use apex_services::{Objects, ProcessObject};
 use apex_types::{Event, Notices, ProcessId};
 use std::alloc::{AllocError, Global};
 use std::marker::{Model, Sync};

@@ -4,9 +4,9 @@ use Rattle.std.proofs.KnownBytes.{Consumes-kept, Consumes-nil, Consumes-trans}
 use Rattle.std.proofs.lemmas.Bool.{lt-ltb}
 use Rattle.std.specs.Io.KnownBytes.{Consumes, IsAtEnd, Keeps, prepend_known}
 use Rattle.apex_types.specs.declared.limits.TheConstants.{MOST_LINE}
-use Rattle.apex_check.specs.Ahead.{IsAhead, IsFirstLine}
-use Rattle.apex_check.specs.Texts.{IsOneLine, ended}
-use Rattle.apex_check.proofs.Coming.{ahead_more, ahead_of, none_left, or_nothing, taken_more}
+use Rattle.apex_incoming.specs.Ahead.{IsAhead, IsFirstLine}
+use Rattle.apex_incoming.specs.Lines.{IsOneLine, ended}
+use Rattle.apex_incoming.proofs.Coming.{ahead_more, ahead_of, none_left, or_nothing, taken_more}
 use Rattle.apex_steps.specs.Answers.{answer, says, unended}
 use Rattle.apex_steps.specs.Conversations.{Hears, Skips, a_line, no_line}
 use Rattle.apex_steps.specs.Sessions.{Session}

@@ -3,9 +3,9 @@ use Rattle.std.proofs.Common.{◌≡◌, ◌∙◌, ℕ, ◌+◌, Bool, true, fa
 use Rattle.std.specs.Prelude.{◌==◌}
 use Rattle.std.proofs.lemmas.List.Splits.{length-slice_split}
 use Rattle.apex_history.specs.Words.{parts}
-use Rattle.apex_check.specs.Texts.{IsOneLine, ended, is_line_feed}
+use Rattle.apex_incoming.specs.Lines.{IsOneLine, ended, is_line_feed}
 use Rattle.apex_steps.specs.Commands.{command_of_words}
-use Rattle.apex_check.proofs.FirstLines.{feeds_cons}
+use Rattle.apex_incoming.proofs.FirstLines.{feeds_cons}
 
 -- a first byte that is no line feed, and the rest of its line
 one_byte : (x : ℕ) (xs : List ℕ) → IsOneLine (x ∷ xs) → ((x == 10) ≡ false) × IsOneLine xs

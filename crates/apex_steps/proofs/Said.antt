@@ -2,7 +2,7 @@
 use Rattle.std.proofs.Common.{◌≡◌, ◌∙◌, ℕ, ◌<◌, Bool, true, false, arith, refl, sym, ap, List, [], ◌∷◌, ◌++◌, length, append_assoc}
 use Rattle.std.specs.Prelude.{if◌then◌else◌}
 use Rattle.apex_history.specs.Words.{parts}
-use Rattle.apex_check.specs.Texts.{IsOneLine, ended}
+use Rattle.apex_incoming.specs.Lines.{IsOneLine, ended}
 use Rattle.apex_objects.specs.declared.Form.{Form}
 use Rattle.apex_steps.specs.Answers.{answer, unended}
 use Rattle.apex_steps.specs.Objects.{answer_text}

@@ -6,10 +6,11 @@ use Rattle.apex_table.specs.Reading.{table_of}
 use Rattle.apex_history.specs.Ports.{IsLeft, Ports, ports}
 use Rattle.apex_check.specs.declared.CheckFault.{CheckFault}
 use Rattle.apex_check.specs.declared.CheckFault.TheVariants as checking
-use Rattle.apex_check.specs.Ahead.{IsAhead}
+use Rattle.apex_incoming.specs.Ahead.{IsAhead}
 use Rattle.apex_check.specs.Faults.{CountsRead as CountsLeading, IsFaultOf}
-use Rattle.apex_check.specs.Texts.{BeginsWithTable, IsTableText, ended, separator}
-use Rattle.apex_check.proofs.Coming.{ahead_more}
+use Rattle.apex_check.specs.Texts.{BeginsWithTable, IsTableText, separator}
+use Rattle.apex_incoming.specs.Lines.{ended}
+use Rattle.apex_incoming.proofs.Coming.{ahead_more}
 use Rattle.apex_objects.specs.declared.Form.{Form}
 use Rattle.apex_steps.specs.Endings.{Converses, IsCutOff, Serves, answered, cut_off, no_memory, refused, unread}
 use Rattle.apex_steps.specs.Faults.{fault_of_leading}

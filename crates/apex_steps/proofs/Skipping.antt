@@ -4,10 +4,10 @@ use Rattle.std.proofs.KnownBytes.{Consumes-kept, Consumes-nil, Keeps-refl}
 use Rattle.std.proofs.lemmas.List.{drop_all, take_all}
 use Rattle.std.specs.Io.KnownBytes.{Consumes, Keeps, prepend_known}
 use Rattle.std.specs.Prelude.{true, false}
-use Rattle.apex_check.specs.Ahead.{IsFirstLine}
-use Rattle.apex_check.specs.Texts.{IsOneLine, ended}
-use Rattle.apex_check.proofs.Coming.{taken_more}
-use Rattle.apex_check.proofs.FirstLines.{one_line_append}
+use Rattle.apex_incoming.specs.Ahead.{IsFirstLine}
+use Rattle.apex_incoming.specs.Lines.{IsOneLine, ended}
+use Rattle.apex_incoming.proofs.Coming.{taken_more}
+use Rattle.apex_incoming.proofs.FirstLines.{one_line_append}
 use Rattle.apex_steps.specs.Conversations.{Skips}
 
 -- all that was read ahead is taken

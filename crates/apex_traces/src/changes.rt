@@ -11,8 +11,8 @@ use crate::mutexes::add_mutexes;
 use crate::pieces::{COUNTER, Piece, TRACK};
 use crate::stamps::Timed;
 use apex_configs::Table;
-use apex_dispatch::Objects;
 use apex_moments::{Counts, Kind};
+use apex_services::Objects;
 use apex_store::Store;
 use apex_types::MOST_OBJECTS;
 

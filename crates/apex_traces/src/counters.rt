@@ -12,8 +12,8 @@ use crate::names::{back, front, object_name};
 use crate::pieces::{COUNTER, Piece, add, add_number, add_text};
 use crate::stamps::{Timed, add_stamp};
 use apex_configs::Table;
-use apex_dispatch::Objects;
 use apex_moments::{Counts, Kind};
+use apex_services::Objects;
 use apex_types::{MOST_NAME, MOST_OBJECTS};
 use std::alloc::AllocError;
 

@@ -6,7 +6,7 @@ use Rattle.std.proofs.lemmas.List.{map-append}
 use Rattle.std.proofs.lemmas.List.Elements.{All-take}
 use Rattle.apex_machine.specs.Events.{IsWithin}
 use Rattle.apex_check.specs.Histories.{Follows, history_of}
-use Rattle.apex_check.specs.Texts.{ended}
+use Rattle.apex_incoming.specs.Lines.{ended}
 use Rattle.apex_check.specs.Verdicts.{HasFollowed, JudgesLines, beyond, departs, legal}
 use Rattle.apex_check.specs.declared.verdicts.Verdict.{Verdict}
 use Rattle.apex_check.specs.declared.verdicts.Verdict.TheVariants.{DepartsAt}

@@ -6,7 +6,7 @@ use Rattle.apex_types.specs.declared.entries.Entry.{Entry}
 use Rattle.apex_history.specs.Counted.{CountsFault, one_more}
 use Rattle.apex_history.specs.declared.ReadFault.{ReadFault}
 use Rattle.apex_history.specs.declared.ReadFault.TheVariants as read
-use Rattle.apex_check.specs.Ahead.{IsAhead}
+use Rattle.apex_incoming.specs.Ahead.{IsAhead}
 use Rattle.apex_console.specs.Faults.{fault_of_read}
 use Rattle.apex_console.specs.Reports.{Answer, Refuses, refuses, runs_to}
 use Rattle.apex_console.specs.declared.CliFault.{CliFault}

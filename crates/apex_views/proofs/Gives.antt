@@ -1,6 +1,6 @@
 -- What a schedule gives that is read behind its table.
 use Rattle.std.proofs.Common.{◌≡◌, refl, List, ℕ, Option}
-use Rattle.apex_check.specs.Ahead.{IsAhead}
+use Rattle.apex_incoming.specs.Ahead.{IsAhead}
 use Rattle.apex_check.specs.Texts.{HasNoSeparator, IsParted}
 use Rattle.apex_console.specs.Reports.{answer_of}
 use Rattle.apex_console.specs.declared.CliFault.TheVariants.{NoSeparator}

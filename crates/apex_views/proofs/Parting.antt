@@ -4,9 +4,10 @@ use Rattle.std.proofs.Math.Seq.{take-add}
 use Rattle.std.proofs.lemmas.List.{take_rest}
 use Rattle.std.specs.List.{position}
 use Rattle.std.specs.Prelude.{◌≢◌}
-use Rattle.apex_check.proofs.FirstLines.{first_feed, no_feed}
+use Rattle.apex_incoming.proofs.FirstLines.{first_feed, no_feed}
 use Rattle.apex_check.proofs.Separated.{table_more}
-use Rattle.apex_check.specs.Texts.{HasNoSeparator, IsParted, IsTableText, ended, is_line_feed, separator}
+use Rattle.apex_check.specs.Texts.{HasNoSeparator, IsParted, IsTableText, separator}
+use Rattle.apex_incoming.specs.Lines.{ended, is_line_feed}
 
 -- the bytes from a place on, and those of them up to another place, as slices have them
 abbrev pub from_place : ℕ → List ℕ → List ℕ

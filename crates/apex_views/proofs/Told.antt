@@ -1,7 +1,7 @@
 -- What the text of a history gives, by its verdict.
 use Rattle.std.proofs.Common.{◌≡◌, ◌∙◌, ◌⊎◌, inl, inr, ℕ, ◌-◌, false, List, Option, None, Some, ap, refl, subst, sym, take}
 use Rattle.apex_check.proofs.Told.{legal_machine}
-use Rattle.apex_check.specs.Ahead.{IsAhead}
+use Rattle.apex_incoming.specs.Ahead.{IsAhead}
 use Rattle.apex_check.specs.Faults.{IsFaultOf}
 use Rattle.apex_check.specs.Verdicts.{HasFollowed, IsAtFault, verdict_text}
 use Rattle.apex_check.specs.declared.CheckFault.{CheckFault}

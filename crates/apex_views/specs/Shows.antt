@@ -6,7 +6,7 @@ use Rattle.apex_history.specs.Ports.{Ports}
 use Rattle.apex_machine.specs.Machine.{Machine, opening, run}
 use Rattle.apex_machine.specs.table.Table as tables
 use Rattle.apex_types.specs.declared.entries.Entry.{Entry}
-use Rattle.apex_check.specs.Ahead.{IsAhead}
+use Rattle.apex_incoming.specs.Ahead.{IsAhead}
 use Rattle.apex_check.specs.Legal.{IsLegal}
 use Rattle.apex_check.specs.Texts.{HasNoSeparator, IsParted}
 use Rattle.apex_check.specs.Verdicts.{IsAtFault}

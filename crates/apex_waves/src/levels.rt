@@ -5,8 +5,9 @@ ghost use Rattle.apex_waves.specs.Levels.{level_of, same_level, same_process, sa
 ghost use Rattle.apex_waves.specs.Moments.{moment_in, moment_of};
 
 use crate::signals::{MOST_SIGNALS, Signal};
-use apex_dispatch::{Kernel, Objects};
+use apex_dispatch::Kernel;
 use apex_moments::{content_of, displayed_on, raised_of, value_of};
+use apex_services::Objects;
 use apex_store::Store;
 use apex_types::{ProcessId, State};
 use arrayvec::ArrayVec;

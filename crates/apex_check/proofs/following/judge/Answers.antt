@@ -5,17 +5,17 @@ use Rattle.apex_history.specs.Counted.{inner_of}
 use Rattle.apex_machine.specs.table.Table.{Table}
 use Rattle.apex_machine.specs.Machine.{events_of}
 use Rattle.apex_check.specs.Terms.{Entry}
-use Rattle.apex_check.specs.Ahead.{Comes, IsFirstLine}
-use Rattle.apex_check.specs.declared.pending.Next.TheVariants.{Part, Rest, End}
+use Rattle.apex_incoming.specs.Ahead.{Comes, IsFirstLine}
+use Rattle.apex_incoming.specs.declared.pending.Next.TheVariants.{Part, Rest, End}
 use Rattle.apex_check.specs.declared.verdicts.CheckFault.TheVariants.{BadLine, TooLong}
 use Rattle.apex_check.specs.declared.following.Answer.{Answer}
 use Rattle.apex_check.specs.declared.following.Answer.TheVariants.{Differs, Beyond}
 use Rattle.apex_check.specs.declared.verdicts.Verdict.TheVariants.{DepartsAt, Legal}
 use Rattle.apex_check.specs.Histories.{AreLines}
 use Rattle.apex_check.specs.Steps.{Judged, departure}
-use Rattle.apex_check.specs.Texts.{ended}
+use Rattle.apex_incoming.specs.Lines.{ended}
 use Rattle.apex_check.specs.Verdicts.{JudgesLines, LineIsAtFault}
-use Rattle.apex_check.proofs.Coming.{line_ahead, none_left, or_nothing, taken_more, text_ahead}
+use Rattle.apex_incoming.proofs.Coming.{line_ahead, none_left, or_nothing, taken_more, text_ahead}
 use Rattle.apex_check.proofs.MoreLines.{counted, ends, line_fault_of, rests, runs_on}
 use Rattle.apex_check.proofs.following.judge.Goals as goal
 

@@ -1,7 +1,8 @@
-use Rattle.std.proofs.Common.{◌≡◌, ◌+◌, ◌≤◌, ap, length, take, Ok, Err, rules}
+use Rattle.std.proofs.Common.{◌≡◌, ◌+◌, ◌≤◌, ap, length, take, Ok, Err, rules, arith}
 use Rattle.apex_machine.specs.Machine.{accept, replay}
 use Rattle.apex_dispatch.specs.Kernel.{KernelState}
 use Rattle.apex_check.specs.Histories.{event_named}
+use Rattle.std.proofs.lemmas.Grind.{common_steps}
 use Rattle.apex_check.proofs.MoreLines.{faulty, judged, unended_is}
 use Rattle.apex_check.proofs.following.judge_line.Goals as goal
 
@@ -30,3 +31,6 @@ returns-clause-judged g c = λ before found are one e.
     let fits : length new.machine.history ≤ old.table.limit = rw table at c.holds-2.ensures.within in
     judged old.table old.machine new.machine before found line c.in-Ok.event are one named e ran c.holds.ensures.replays replays fits
     c.compare-answer.result c.compare-answer.ensures.answers
+
+pub returns-clause-more : goal.returns-clause-more
+returns-clause-more g c = grind (arith, common_steps)

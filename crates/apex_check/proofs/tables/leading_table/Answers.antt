@@ -4,10 +4,11 @@ use Rattle.std.proofs.KnownBytes.{Keeps-refl}
 use Rattle.apex_history.specs.Counted.{inner_of}
 use Rattle.apex_table.specs.Reading.{table_of}
 use Rattle.apex_check.specs.declared.verdicts.CheckFault.TheVariants.{Table}
-use Rattle.apex_check.specs.Texts.{ended, separator}
+use Rattle.apex_check.specs.Texts.{separator}
+use Rattle.apex_incoming.specs.Lines.{ended}
 use Rattle.apex_check.specs.Verdicts.{IsAtFault, no_table}
 use Rattle.apex_words.specs.Outcome.{Fails}
-use Rattle.apex_check.proofs.Coming.{or_nothing, text_ahead}
+use Rattle.apex_incoming.proofs.Coming.{or_nothing, text_ahead}
 use Rattle.apex_check.proofs.Separated.{counts_table, of_table}
 use Rattle.apex_check.proofs.tables.leading_table.Goals as goal
 

@@ -2,11 +2,13 @@ use Rattle.std.proofs.Common.{◌≡◌, ◌∙◌, ℕ, ◌+◌, List, ◌++◌
 use Rattle.std.specs.Prelude.{◌≢◌}
 use Rattle.std.specs.Io.KnownBytes.{Consumes, prepend_known}
 use Rattle.apex_history.specs.Counted.{inner_of}
-use Rattle.apex_check.specs.Ahead.{IsFirstLine}
+use Rattle.apex_incoming.specs.Ahead.{IsFirstLine}
 use Rattle.apex_check.specs.declared.verdicts.CheckFault.TheVariants.{NoSeparator}
-use Rattle.apex_check.specs.Texts.{IsTableText, ended, separator}
+use Rattle.apex_check.specs.Texts.{IsTableText, separator}
+use Rattle.apex_incoming.specs.Lines.{ended}
 use Rattle.apex_check.specs.Verdicts.{IsAtFault, no_separator}
-use Rattle.apex_check.proofs.Coming.{none_left, or_nothing, taken_more, text_ahead}
+use Rattle.apex_incoming.proofs.Coming.{none_left, or_nothing, taken_more, text_ahead}
+use Rattle.std.proofs.lemmas.Grind.{common_steps}
 use Rattle.apex_check.proofs.Separated.{from_place, last_piece, line_more, none_behind, none_separates}
 use Rattle.apex_check.proofs.tables.table_text.Goals as goal
 
@@ -68,3 +70,21 @@ loop-next-preserved-in-Line g c =
       taken = gone;
       failures = c.in-Ok.ensures.counted ∙ now.failures;
     }
+
+pub slice_bounds-is_separator-count : goal.slice_bounds-is_separator-count
+slice_bounds-is_separator-count g c = grind (arith, common_steps)
+
+pub slice_bounds-is_separator-start : goal.slice_bounds-is_separator-start
+slice_bounds-is_separator-start g c = grind (arith, common_steps)
+
+pub returns-then-is_separator-clause-lines : goal.returns-then-is_separator-clause-lines
+returns-then-is_separator-clause-lines g c = grind (arith, common_steps)
+
+pub loop-next-smaller-in-Line : goal.loop-next-smaller-in-Line
+loop-next-smaller-in-Line g c = grind (arith, common_steps)
+
+pub loop-next-smaller : goal.loop-next-smaller
+loop-next-smaller g c = grind (arith, common_steps)
+
+pub loop-next-preserved : goal.loop-next-preserved
+loop-next-preserved g c = grind (arith, common_steps)

@@ -3,8 +3,9 @@
 use Rattle.std.proofs.Common.{◌≡◌, ◌≤◌, length, take, drop}
 use Rattle.std.specs.Io.KnownBytes.{Consumes, prepend_known}
 use Rattle.apex_history.specs.Counted.{inner_of, failures_of, reads_left_of}
-use Rattle.apex_check.specs.Ahead.{fuel}
-use Rattle.apex_check.specs.Texts.{IsOneLine, IsTableText}
+use Rattle.apex_incoming.specs.Ahead.{fuel}
+use Rattle.apex_check.specs.Texts.{IsTableText}
+use Rattle.apex_incoming.specs.Lines.{IsOneLine}
 use Rattle.apex_check.proofs.tables.table_text.Given as goal
 
 abbrev pub invariant-loop-next : goal.invariant-loop-next

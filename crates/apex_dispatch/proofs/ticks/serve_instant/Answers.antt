@@ -1,4 +1,4 @@
-use Rattle.std.proofs.Common.{arith}
+use Rattle.std.proofs.Common.{arith, rules}
 use Rattle.std.proofs.lemmas.Int.{ints}
 use Rattle.apex_laws.proofs.MissesServed.{reach_serve_deadlines, room_left}
 use Rattle.apex_dispatch.proofs.ticks.serve_instant.Goals as goal
@@ -21,3 +21,6 @@ serve_dues-requires g c =
       time = rw made.roster (omega (arith, moves.time, c.requires.time));
       room = rw (made.roster, made.notices, c.requires.room) (omega (arith, left, c.requires.few_processes));
     }
+
+pub serve_deadlines-requires-clause-few_processes : goal.serve_deadlines-requires-clause-few_processes
+serve_deadlines-requires-clause-few_processes c = search rules

@@ -3,7 +3,7 @@ use Rattle.std.proofs.lemmas.Result.{err_from_is_err_and}
 use Rattle.std.specs.Io.KnownBytes.{prepend_known}
 use Rattle.apex_history.specs.Counted.{inner_of, failures_of}
 use Rattle.apex_history.specs.Ports.{ports}
-use Rattle.apex_check.specs.Ahead.{IsAhead}
+use Rattle.apex_incoming.specs.Ahead.{IsAhead}
 use Rattle.apex_steps.specs.Conversations.{Hears}
 use Rattle.apex_steps.specs.declared.faults.StepFault.TheVariants.{Memory}
 use Rattle.apex_steps.proofs.Talks.{cut_before, cut_within, ends_here, ends_with, goes_on, talks_none}

@@ -2,7 +2,7 @@
 use Rattle.std.specs.Io.KnownBytes.{prepend_known}
 use Rattle.apex_history.specs.Counted.{inner_of, failures_of, reads_left_of}
 use Rattle.apex_history.specs.Ports.{ports}
-use Rattle.apex_check.specs.Ahead.{fuel}
+use Rattle.apex_incoming.specs.Ahead.{fuel}
 use Rattle.apex_steps.specs.Desks.{IsEmpty}
 use Rattle.apex_steps.proofs.Talks.{HasTalked}
 use Rattle.apex_steps.proofs.conversations.converse.Given as goal

@@ -1,8 +1,8 @@
 use Rattle.std.proofs.Common.{◌≡◌}
 use Rattle.std.specs.Io.KnownBytes.{prepend_known}
 use Rattle.apex_history.specs.Counted.{inner_of}
-use Rattle.apex_check.specs.Ahead.{Comes, IsFirstLine}
-use Rattle.apex_check.specs.declared.Next.TheVariants.{Rest}
+use Rattle.apex_incoming.specs.Ahead.{Comes, IsFirstLine}
+use Rattle.apex_incoming.specs.declared.Next.TheVariants.{Rest}
 use Rattle.apex_steps.proofs.Heard.{hears_kept, hears_line, hears_rest}
 use Rattle.apex_steps.proofs.conversations.hear.Goals as goal
 

@@ -1,9 +1,9 @@
 use Rattle.std.proofs.Common.{◌≡◌, ◌∙◌, ◌+◌, ◌<◌, ◌≤◌, ap, arith, refl, drop, length, length-append, length-drop}
 use Rattle.std.specs.Io.KnownBytes.{prepend_known}
 use Rattle.apex_history.specs.Counted.{inner_of}
-use Rattle.apex_check.specs.Ahead.{Comes, IsFirstLine}
-use Rattle.apex_check.specs.declared.Next.TheVariants.{Part, Rest, End}
-use Rattle.apex_check.proofs.FirstLines.{one_line_append}
+use Rattle.apex_incoming.specs.Ahead.{Comes, IsFirstLine}
+use Rattle.apex_incoming.specs.declared.Next.TheVariants.{Part, Rest, End}
+use Rattle.apex_incoming.proofs.FirstLines.{one_line_append}
 use Rattle.apex_steps.proofs.Skipping.{all_gone, first_gone, skips_all, skips_line, skips_rest}
 use Rattle.apex_steps.proofs.conversations.skip_line.Goals as goal
 

@@ -2,8 +2,8 @@
 use Rattle.std.proofs.Common.{◌≡◌, ◌<◌, ◌≤◌, ℕ, List, length}
 use Rattle.std.specs.Io.KnownBytes.{Consumes, prepend_known}
 use Rattle.apex_history.specs.Counted.{inner_of, failures_of, reads_left_of}
-use Rattle.apex_check.specs.Ahead.{fuel}
-use Rattle.apex_check.specs.Texts.{IsOneLine}
+use Rattle.apex_incoming.specs.Ahead.{fuel}
+use Rattle.apex_incoming.specs.Lines.{IsOneLine}
 use Rattle.apex_steps.proofs.conversations.skip_line.Given as goal
 
 abbrev pub invariant-loop-next : goal.invariant-loop-next

@@ -1,9 +1,8 @@
 -- The running values that are listed are those that the history gives.
-use Rattle.std.proofs.Common.{◌∙◌, ap, length, arith}
+use Rattle.std.proofs.Common.{ap, length, arith}
 use Rattle.apex_machine.specs.text.Listing.{listing, listing_of}
 use Rattle.apex_machine.specs.Deeds.{Objects}
-use Rattle.apex_machine.specs.processes.Roster.{Roster}
-use Rattle.apex_dispatch.proofs.Replays.{kept_sound, kept_values}
+use Rattle.apex_dispatch.proofs.Replays.{kept_values}
 use Rattle.apex_dispatch.proofs.kernels.Kernel.listing.Goals as goal
 
 pub invariant_of-result : goal.invariant_of-result

@@ -4,7 +4,7 @@ use Rattle.apex_types.specs.declared.entries.Caller.TheVariants.{Nobody}
 use Rattle.apex_types.specs.declared.entries.Reply.TheVariants.{Advanced}
 use Rattle.apex_types.specs.declared.entries.Who.TheVariants.{Ticker}
 use Rattle.apex_machine.specs.Deeds.{tick_deed}
-use Rattle.apex_machine.specs.Situations.{Situation, step}
+use Rattle.apex_machine.specs.Situations.{step}
 use Rattle.apex_machine.proofs.BothProfiles.{lawful_count}
 use Rattle.apex_dispatch.specs.Deeds.{Does}
 use Rattle.apex_laws.specs.GoesOn.{CanGoOn}

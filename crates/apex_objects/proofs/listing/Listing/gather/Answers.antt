@@ -1,7 +1,7 @@
 -- The text of the next thing goes behind those before it.
 use Rattle.std.proofs.Common.{◌<◌, arith}
 use Rattle.apex_history.proofs.Outcomes.{OnErr-always}
-use Rattle.apex_dispatch.proofs.Gathering.{gathers_next, begins_next}
+use Rattle.apex_services.proofs.Gathering.{gathers_next, begins_next}
 use Rattle.apex_objects.specs.Sections.{thing_count, thing_text}
 use Rattle.apex_objects.proofs.listing.Listing.gather.Goals as goal
 

@@ -3,7 +3,7 @@ use Rattle.std.proofs.Common.{◌≡◌, arith}
 use Rattle.std.proofs.lemmas.Result.{on_err_weaker, on_ok_weaker}
 use Rattle.apex_history.proofs.Outcomes.{OnErr-always}
 use Rattle.apex_history.proofs.Passing.{beginning_after, passes_all}
-use Rattle.apex_dispatch.proofs.Gathering.{gathers_piece, begins_piece}
+use Rattle.apex_services.proofs.Gathering.{gathers_piece, begins_piece}
 use Rattle.apex_objects.proofs.Listed.{sections_listed}
 use Rattle.apex_objects.specs.Sections.{sections, section_text}
 use Rattle.apex_objects.specs.declared.listing.Section.TheVariants.{Head}
