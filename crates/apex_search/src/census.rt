@@ -13,6 +13,7 @@ use apex_jobs::Jobs;
 use apex_questions::{Fact, Facts};
 use std::alloc::{AllocError, Global};
 use std::marker::Sync;
+use std::mem::drop;
 use std::thread::Threads;
 
 /// A fact that can happen: the path is that of a shortest schedule that leads to it, and its entry
@@ -89,6 +90,30 @@ impl TableSystem {
         unreachable!()
     }
 
+    /// Searches on for each of the facts. Fails only for want of memory.
+    fn find_all<R: Threads + Sync, V: Watch>(
+        &mut self,
+        alloc: Global,
+        search: &mut Search<Workplace>,
+        jobs: &Jobs<'_, R>,
+        watch: &mut V,
+    ) -> Result<Census, AllocError>
+        requires { IsSearchOf self.old search.old }
+        ensures { IfOk result (IsCensus self.old) }
+    {
+        let mut found = Vec::new(alloc);
+        loop {
+            match self.go_on(alloc, search, jobs, watch)? {
+                Answer::Found(path) => {
+                    let fact = self.strike(alloc, path.as_slice())?;
+                    found.push(Finding { fact, path })?;
+                }
+                Answer::Closed { states } => return Ok(self.ended(found, End::Closed { states })),
+                Answer::Full { depth } => return Ok(self.ended(found, End::Full { depth })),
+            }
+        }
+    }
+
     /// Searches the schedules of the pace, the shortest first, for each of the facts at once. The jobs
     /// share the search. The room for `room` states is taken before the first event. Fails only for want
     /// of memory.
@@ -102,22 +127,14 @@ impl TableSystem {
         ensures { IfOk result (IsCensus self) }
     {
         let mut search = Search::new(alloc, &self, room)?;
-        let mut found = Vec::new(alloc);
-        loop {
-            match self.go_on(alloc, &mut search, jobs, watch)? {
-                Answer::Found(path) => {
-                    let fact = self.strike(alloc, path.as_slice())?;
-                    found.push(Finding { fact, path })?;
-                }
-                Answer::Closed { states } => return Ok(self.ended(found, End::Closed { states })),
-                Answer::Full { depth } => return Ok(self.ended(found, End::Full { depth })),
-            }
-        }
+        let census = self.find_all(alloc, &mut search, jobs, watch);
+        drop(search);
+        census
     }
 
     /// The census of what was found; the question is for the others.
-    fn ended(self, found: Vec<Finding>, end: End) -> Census
-        ensures { result ≡ record { found = found; others = self.question.facts; end = end } }
+    fn ended(&self, found: Vec<Finding>, end: End) -> Census
+        ensures { result ≡ record { found = found; others = self.now.question.facts; end = end } }
     {
         Census {
             found,

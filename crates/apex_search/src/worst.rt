@@ -14,6 +14,7 @@ use apex_store::Store;
 use apex_types::{Event, ProcessId};
 use std::alloc::{AllocError, Global};
 use std::marker::Sync;
+use std::mem::drop;
 use std::thread::Threads;
 
 /// The slowest job that was found.
@@ -199,7 +200,9 @@ impl TableSystem {
     {
         self.ask_for_response(process, 0);
         let mut search = Search::new(alloc, &self, room)?;
-        self.greatest_response(alloc, &mut search, process, jobs, watch)
+        let worst = self.greatest_response(alloc, &mut search, process, jobs, watch);
+        drop(search);
+        worst
     }
 }
 

@@ -1,12 +1,11 @@
-use Rattle.std.proofs.Common.{◌∙◌, ap, ap₂}
+use Rattle.std.proofs.Common.{◌∙◌, ap}
 use Rattle.std.proofs.lemmas.Result.{IfOk-weaker}
 use Rattle.clap.specs.Words.{App, with_subcommand}
+use Rattle.apex_tasks.specs.Words.{lint_command, search_command}
 use Rattle.apex_tasks.proofs.words.search_commands.Goals as goal
 
 pub returns : goal.returns
 returns c =
-    let top = λ (a : App). a.top in
-    let search_is = c.in_ok-with_search.ensures.shape c.in_ok-search_command.ensures.local
-    ∙ ap₂ with_subcommand c.in_ok-views.ensures (ap top c.in_ok-search_command.ensures.app) in
-    IfOk-weaker c.subcommand-2.result _ _ (λ r h. h.shape c.in_ok-lint_command.ensures.local
-    ∙ ap₂ with_subcommand search_is (ap top c.in_ok-lint_command.ensures.app)) c.subcommand-2.ensures
+    let search_is = c.in_ok-with_search.ensures search_command c.search_command.ensures.app ∙ ap (λ (a : App). with_subcommand a search_command.top) c.in_ok-views.ensures in
+    IfOk-weaker c.with_command-2.result _ _ (λ r h. h ∙ ap (λ (a : App). with_subcommand a lint_command.top) search_is)
+    (c.with_command-2.ensures lint_command c.lint_command.ensures.app)

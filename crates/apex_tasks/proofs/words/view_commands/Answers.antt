@@ -1,13 +1,13 @@
-use Rattle.std.proofs.Common.{◌∙◌, ap, ap₂}
+use Rattle.std.proofs.Common.{◌∙◌, ap, codes}
 use Rattle.std.proofs.lemmas.Result.{IfOk-weaker}
 use Rattle.clap.specs.Words.{App, with_subcommand}
+use Rattle.apex_tasks.specs.Words.{json_view_command, view_command}
 use Rattle.apex_tasks.proofs.words.view_commands.Goals as goal
 
 pub returns : goal.returns
 returns c =
-    let top = λ (a : App). a.top in
-    let lines_is = c.in_ok-with_lines.ensures.shape c.in_ok-json_view_command.ensures.local ∙ ap₂ with_subcommand c.in_ok-pictures.ensures (ap top c.in_ok-json_view_command.ensures.app) in
-    let status_is = c.in_ok-with_status.ensures.shape c.in_ok-json_view_command-2.ensures.local ∙ ap₂ with_subcommand lines_is (ap top c.in_ok-json_view_command-2.ensures.app) in
-    let report_is = c.in_ok-with_report.ensures.shape c.in_ok-json_view_command-3.ensures.local ∙ ap₂ with_subcommand status_is (ap top c.in_ok-json_view_command-3.ensures.app) in
-    IfOk-weaker c.subcommand-4.result _ _ (λ r h. h.shape c.in_ok-view_command.ensures.local
-    ∙ ap₂ with_subcommand report_is (ap top c.in_ok-view_command.ensures.app)) c.subcommand-4.ensures
+    let lines_is = c.in_ok-with_lines.ensures (json_view_command (codes "lines")) c.json_view_command.ensures.app ∙ ap (λ (a : App). with_subcommand a (json_view_command (codes "lines")).top) c.in_ok-pictures.ensures in
+    let status_is = c.in_ok-with_status.ensures (json_view_command (codes "status")) c.json_view_command-2.ensures.app ∙ ap (λ (a : App). with_subcommand a (json_view_command (codes "status")).top) lines_is in
+    let report_is = c.in_ok-with_report.ensures (json_view_command (codes "report")) c.json_view_command-3.ensures.app ∙ ap (λ (a : App). with_subcommand a (json_view_command (codes "report")).top) status_is in
+    IfOk-weaker c.with_command-4.result _ _ (λ r h. h ∙ ap (λ (a : App). with_subcommand a (view_command (codes "schedule")).top) report_is)
+    (c.with_command-4.ensures (view_command (codes "schedule")) c.view_command.ensures.app)

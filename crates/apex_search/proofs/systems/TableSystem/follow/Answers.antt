@@ -1,4 +1,5 @@
-use Rattle.std.proofs.Common.{slice_index, sym}
+use Rattle.std.proofs.Common.{slice_index, sym, arith}
+use Rattle.std.proofs.lemmas.Grind.{common_steps}
 use Rattle.apex_choices.specs.Counts.{paced_in}
 use Rattle.apex_search.specs.Steps.{Searched}
 use Rattle.apex_search.proofs.Along.{IsAlong, along_begins, along_more, along_stops, form_after}
@@ -76,3 +77,6 @@ returns-in_default-clause-form c = form_after c.args.self.now c.args.path.now (p
 
 pub returns-clause-form : goal.returns-clause-form
 returns-clause-form c = form_after c.args.self.now c.args.path.now (paced_in c.loop-choice.paced) c.loop-choice.events.items c.loop-choice.choice-index c.loop-choice.invariant
+
+pub returns-clause-events : goal.returns-clause-events
+returns-clause-events c = grind (arith, common_steps)

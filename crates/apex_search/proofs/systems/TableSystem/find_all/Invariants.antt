@@ -1,6 +1,6 @@
 use Rattle.std.proofs.Common.{length}
 use Rattle.apex_search.proofs.Censuses.{IsCounting}
-use Rattle.apex_search.proofs.systems.TableSystem.census.Given as goal
+use Rattle.apex_search.proofs.systems.TableSystem.find_all.Given as goal
 
 abbrev pub invariant-loop-found : goal.invariant-loop-found
 invariant-loop-found g l = IsCounting l.fn.self l.self l.search l.found.items
