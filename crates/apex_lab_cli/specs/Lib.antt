@@ -3,6 +3,7 @@ pub mod Ends
 pub mod Lints
 pub mod Steps
 pub mod Checks
+pub mod Listed
 pub mod Whys
 pub mod Dumps
 pub mod Exits

@@ -10,13 +10,14 @@ ghost use Rattle.apex_lab_cli.specs.Ends.{end_in};
 
 use crate::ends::Ending;
 use crate::faults::LabFault;
+use crate::listed::{Listed, listed_by};
 use apex_console::{CliFault, Run, booted};
 use apex_dispatch::{Kernel, events_in};
 use apex_history::{Counted, Sink, Source};
 use apex_process::QueueStore;
-use apex_showings::{Listing, RunSource, Showing, View};
+use apex_showings::RunSource;
 use apex_types::Event;
-use apex_views::{Departure, Given, GivenRun, given_by};
+use apex_views::Departure;
 use apex_waves::{Sheet, print_waves};
 use std::alloc::{AllocError, Global};
 
@@ -127,17 +128,6 @@ pub fn run_dump<R: Source, W: Sink>(
         (ports_of R.remaining W.contents reader.old writer.old) (end_in result)
         (ports_of R.remaining W.contents reader.new writer.new) }
 {
-    let showing = Showing {
-        source,
-        view: View::Listing(Listing::Schedule),
-    };
-    let given = given_by(alloc, &showing, reader)?;
-    let Given { made, departure } = given;
-    match made {
-        GivenRun::Listing(_, run) => dump_given(alloc, run, departure, writer),
-        // No picture is asked for.
-        GivenRun::Picture(_) => Err(LabFault::Common(CliFault::Memory)),
-        GivenRun::Empty(..) => Err(LabFault::Common(CliFault::Memory)),
-        GivenRun::Lacking(..) => Err(LabFault::Common(CliFault::Memory)),
-    }
+    let Listed { run, departure } = listed_by(alloc, source, reader)?;
+    dump_given(alloc, run, departure, writer)
 }

@@ -7,6 +7,7 @@ mod dumping;
 mod ends;
 mod faults;
 mod linting;
+mod listed;
 mod program;
 mod stepping;
 mod whys;

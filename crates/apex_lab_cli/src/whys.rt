@@ -9,12 +9,12 @@ ghost use Rattle.apex_lab_cli.specs.Whys.{AnswerEnds, OutcomeWhyEnds, WhyEnds};
 
 use crate::ends::Ending;
 use crate::faults::LabFault;
+use crate::listed::{Listed, listed_by};
 use apex_console::{CliFault, Run};
 use apex_departures::why;
 use apex_history::{Counted, Sink, Source};
-use apex_showings::{Listing, Showing, View};
 use apex_tasks::Why;
-use apex_views::{Departure, Given, GivenRun, given_by};
+use apex_views::Departure;
 use std::alloc::Global;
 use std::io;
 use std::io::Write;
@@ -84,17 +84,6 @@ pub fn run_why<R: Source, W: Sink>(
         (ports_of R.remaining W.contents reader.new writer.new) }
 {
     let Why { source, entry } = asked;
-    let showing = Showing {
-        source,
-        view: View::Listing(Listing::Schedule),
-    };
-    let given = given_by(alloc, &showing, reader)?;
-    let Given { made, departure } = given;
-    match made {
-        GivenRun::Listing(_, run) => answer_given(alloc, run, departure, entry, writer),
-        // No picture is asked for.
-        GivenRun::Picture(_) => Err(LabFault::Common(CliFault::Memory)),
-        GivenRun::Empty(..) => Err(LabFault::Common(CliFault::Memory)),
-        GivenRun::Lacking(..) => Err(LabFault::Common(CliFault::Memory)),
-    }
+    let Listed { run, departure } = listed_by(alloc, source, reader)?;
+    answer_given(alloc, run, departure, entry, writer)
 }

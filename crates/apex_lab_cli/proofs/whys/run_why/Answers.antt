@@ -5,14 +5,10 @@ use Rattle.apex_views.specs.Shows as showing
 use Rattle.apex_lab_cli.specs.Whys.{stopped}
 use Rattle.apex_lab_cli.proofs.whys.run_why.Goals as goal
 
-pub returns-in_err-given : goal.returns-in_err-given
-returns-in_err-given g c =
+pub returns-in_err-run : goal.returns-in_err-run
+returns-in_err-run g c =
     let p = err_from_is_err_and c.from_residual.result c.from_residual.ensures.1 in
-    rw (p.1, p.2) (record { outcome = _; gives = c.in_err-given.ensures.gives; answers = stopped {ends = showing.fails c.in_err-given.field-0.0} (Keeps-refl _) })
+    rw (p.1, p.2) (record { outcome = _; gives = c.in_err-run.ensures; answers = stopped {ends = showing.fails c.in_err-run.field-0.0} (Keeps-refl _) })
 
-pub returns-in-Listing : goal.returns-in-Listing
-returns-in-Listing g c = record {
-  outcome = _;
-  gives = rw c.in-Listing.is at c.in_ok-given.ensures.gives;
-  answers = c.answer_given.ensures;
-}
+pub returns : goal.returns
+returns g c = record { outcome = _; gives = c.in_ok-run.ensures; answers = c.answer_given.ensures }
