@@ -6,7 +6,9 @@ ghost use Rattle.apex_console.specs.Faults.{IsUsageOrMemory};
 ghost use Rattle.apex_cli.specs.Requests.{request_said};
 ghost use Rattle.apex_cli.specs.Words.{apex, report_command, report_in, request_in, request_of, run_command, run_in};
 
-use apex_console::{CliFault, Report, flag, has_flag, matches_of, required};
+use apex_console::{
+    CliFault, Report, bare_line, flag, has_flag, matches_of, required, with_command,
+};
 use clap::{ArgMatches, Command};
 use std::alloc::{AllocError, Global};
 
@@ -48,12 +50,10 @@ fn run_command<'a>(alloc: Global) -> Result<Command<'a>, AllocError>
 fn command<'a>(alloc: Global) -> Result<Command<'a>, AllocError>
     ensures { IfOk result (λ c. app_of c ≡ apex) }
 {
-    let with_replay = Command::new(alloc, "apex")
-        .subcommand_required(true)
-        .subcommand(report_command(alloc, "replay")?)?;
-    let with_status = with_replay.subcommand(report_command(alloc, "status")?)?;
-    let with_check = with_status.subcommand(Command::new(alloc, "check"))?;
-    with_check.subcommand(run_command(alloc)?)
+    let with_replay = with_command(bare_line(alloc, "apex"), report_command(alloc, "replay"))?;
+    let with_status = with_command(with_replay, report_command(alloc, "status"))?;
+    let with_check = with_command(with_status, Ok(Command::new(alloc, "check")))?;
+    with_command(with_check, run_command(alloc))
 }
 
 /// What the words ask for: `replay --schedule S`, `status --schedule S`, `check`, or

@@ -16,4 +16,6 @@ pub use given::given_words;
 pub use kernels::{booted, kernel_for, ran, table_for};
 pub use reports::{Report, Run, run_of, write_report};
 pub use streams::write_error;
-pub use words::{flag, has_flag, matches_of, option, required, scheduled_items};
+pub use words::{
+    bare_line, flag, has_flag, matches_of, option, required, scheduled_items, with_command,
+};

@@ -1,15 +1,19 @@
 //! The words of a command line.
-ghost use Rattle.std.specs.Prelude.{◌≡◌, false, true, IfOk, IfErr, IsErrOf, Some, None, map, string_bytes};
-ghost use Rattle.clap.specs.Words.{app_of, first_value, found_of, is_simple_and_free, rule_of, subcommand_rows_of};
+ghost use Rattle.std.specs.Prelude.{◌≡◌, false, true, IfOk, IfErr, IsErrOf, Some, None};
+ghost use Rattle.std.specs.Prelude.{map, string_bytes};
+ghost use Rattle.clap.specs.declared.builder.command.Command.TheViews.{out-Command as fields_of};
+ghost use Rattle.clap.specs.Words.{App, app_of, first_value, found_of, is_simple_and_free, rule_of};
+ghost use Rattle.clap.specs.Words.{subcommand_rows_of, with_subcommand};
 ghost use Rattle.apex_schedules.specs.Schedule.{items_of};
 ghost use Rattle.apex_console.specs.Faults.{IsUsageOrMemory};
-ghost use Rattle.apex_console.specs.Words.{HasFault, NamesCommand, flag_rule, option_rule, required_rule, says_given};
+ghost use Rattle.apex_console.specs.Words.{HasFault, NamesCommand, flag_rule, option_rule};
+ghost use Rattle.apex_console.specs.Words.{program_alone, required_rule, says_given};
 
 use crate::faults::CliFault;
 use apex_schedules::{Item, read_schedule};
 use clap::error::ErrorKind;
 use clap::{Arg, ArgAction, ArgMatches, Command};
-use std::alloc::Global;
+use std::alloc::{AllocError, Global};
 
 /// An option with a value, which may be given.
 pub fn option<'a>(alloc: Global, name: &'static str) -> Arg<'a>
@@ -33,6 +37,27 @@ pub fn flag<'a>(alloc: Global, name: &'static str) -> Arg<'a>
     ensures local { result.global ≡ false }
 {
     Arg::new(alloc, name).long(name).action(ArgAction::SetTrue)
+}
+
+/// The command line of the program of this name, before it has a command.
+pub fn bare_line<'a>(alloc: Global, name: &'static str) -> Command<'a>
+    ensures { app_of result ≡ program_alone name.now }
+{
+    Command::new(alloc, name).subcommand_required(true)
+}
+
+/// The command line with one command more, if that was made. Fails only for want of memory.
+// A command is dropped here alone, and not where each of the others is made.
+pub fn with_command<'a>(
+    line: Command<'a>,
+    made: Result<Command<'a>, AllocError>,
+) -> Result<Command<'a>, AllocError>
+    requires { IfOk made (λ c. (fields_of c).has_globals ≡ false) }
+    ensures { (app : App) → IfOk made.entry (λ c. app_of c ≡ app)
+        → IfOk result (λ c. app_of c ≡ with_subcommand (app_of line.entry) app.top) }
+{
+    let command = made?;
+    line.subcommand(command)
 }
 
 /// What the words of this command line ask for: the command that they name, and its options.

@@ -237,12 +237,11 @@ impl Stored for Mutex {
     }
 }
 
-/// The process is created or not; `blank` is one that isn't.
-pub(crate) fn restore_process(process: &mut ProcessObject, blank: ProcessObject, created: bool)
-    requires { blank.created ≡ false }
+/// The process is created or not.
+pub(crate) fn restore_process(process: &mut ProcessObject, created: bool)
     ensures { process.new ≡ process_from created }
 {
-    *process = blank;
+    *process = ProcessObject::new();
     if created {
         process.make();
     }

@@ -90,20 +90,14 @@ fn restore_records(table: &Table, store: &mut PlainStore, words: &[u64], from: u
     }
 }
 
-/// The processes are created or not, as these words say; `blank` is one that isn't.
-fn restore_processes(
-    processes: &mut [ProcessObject],
-    blank: ProcessObject,
-    words: &[u64],
-    from: usize,
-)
-    requires blank { blank.created ≡ false }
-    requires words { from + length processes.old * RECORD_WORDS ≤ length words.now }
+/// The processes are created or not, as these words say.
+fn restore_processes(processes: &mut [ProcessObject], words: &[u64], from: usize)
+    requires { from + length processes.old * RECORD_WORDS ≤ length words.now }
     ensures { processes.new ≡ processes_in (length processes.old) words.now from }
 {
     for place in 0..processes.len() {
         let created = is_created_in(part(words, from, place, RECORD_WORDS));
-        restore_process(&mut processes[place], blank, created);
+        restore_process(&mut processes[place], created);
     }
 }
 
@@ -132,16 +126,14 @@ fn restore_locks(objects: &mut Objects, words: &[u64], from: usize)
     restore_all(objects.mutexes.as_mut_slice(), words, mutexes);
 }
 
-/// The objects are as these words say, in which those of the first process are at `from`; `blank` is
-/// a process that isn't created.
-fn restore_objects(objects: &mut Objects, blank: ProcessObject, words: &[u64], from: usize)
-    requires blank { blank.created ≡ false }
-    requires words { from + length objects.old.processes * RECORD_WORDS
+/// The objects are as these words say, in which those of the first process are at `from`.
+fn restore_objects(objects: &mut Objects, words: &[u64], from: usize)
+    requires { from + length objects.old.processes * RECORD_WORDS
         + counted_count objects.old + locks_count objects.old ≤ length words.now }
     ensures { objects.new ≡ objects_from objects.old words.now from }
 {
     let behind = from + objects.processes.len() * RECORD_WORDS;
-    restore_processes(objects.processes.as_mut_slice(), blank, words, from);
+    restore_processes(objects.processes.as_mut_slice(), words, from);
     let behind = restore_counted(objects, words, behind);
     restore_locks(objects, words, behind);
 }
@@ -156,15 +148,8 @@ pub(crate) fn first_stamp(many: usize) -> i64
     i64::from(1 + (many + 1) * many)
 }
 
-/// The situation of these words and what the pace counts there, in the memory of this one;
-/// `blank` is a process that isn't created.
-pub fn restore(
-    paced: PacedSituation,
-    table: &Table,
-    blank: ProcessObject,
-    words: &[u64],
-) -> PacedSituation
-    requires blank { blank.created ≡ false }
+/// The situation of these words and what the pace counts there, in the memory of this one.
+pub fn restore(paced: PacedSituation, table: &Table, words: &[u64]) -> PacedSituation
     requires table { IsOfTable table.now (paced_in paced).situation }
     requires words { IsStored table.now words.now }
     ensures { IsSamePaced (paced_in result) (paced_from table.now words.now) }
@@ -177,7 +162,7 @@ pub fn restore(
     let young = first_stamp(store.process_count());
     restore_records(table, &mut store, words, from);
     store.set_clock(mode_in(words[0]), words[1], young, 0);
-    restore_objects(&mut objects, blank, words, from);
+    restore_objects(&mut objects, words, from);
     let works = works_in(cores, words);
     PacedSituation {
         situation: Situation::new(store, objects, works, words[2] as usize),

@@ -1,4 +1,4 @@
--- The run of which something else is asked for than a picture or a listing.
+-- The run whose reason or value changes are asked for.
 use Rattle.std.specs.Prelude.{Result, Ok, Err}
 use Rattle.apex_views.specs.declared.ShowFault.{ShowFault}
 use Rattle.apex_views.specs.Shows.{Outcome, fails, outcome_with, stops}

@@ -1,4 +1,4 @@
-//! The run of which something else is asked for than a picture or a listing.
+//! The run whose reason or value changes are asked for.
 ghost use Rattle.std.specs.Prelude.{◌≡◌};
 ghost use Rattle.apex_history.specs.Counted.{inner_of, failures_of};
 ghost use Rattle.apex_showings.specs.Showings.{source_said};
@@ -31,8 +31,9 @@ pub(crate) fn listed_by<R: Source>(
         source,
         view: View::Listing(Listing::Schedule),
     };
-    let given = given_by(alloc, &showing, reader)?;
-    let Given { made, departure } = given;
+    let given = given_by(alloc, &showing, reader);
+    drop(showing);
+    let Given { made, departure } = given?;
     match made {
         GivenRun::Listing(_, run) => Ok(Listed { run, departure }),
         // No picture is asked for.

@@ -5,7 +5,6 @@ use Rattle.apex_explore.specs.declared.systems.Taken.TheVariants.{Refused}
 use Rattle.std.specs.Prelude.{IfSome}
 use Rattle.apex_laws.specs.Laws.{OfEachTable}
 use Rattle.apex_machine.specs.table.Table.{IsLawful, Table}
-use Rattle.apex_machine.specs.services.ProcessServices.{ProcessObject}
 use Rattle.apex_pace.specs.Laws.{IsPace}
 use Rattle.apex_pace.specs.Pace.{Paced}
 use Rattle.apex_choices.specs.Counts.{IsSamePaced, StoredPaced, paced_in}
@@ -76,14 +75,13 @@ step_from system here copied words choice event same copy found =
 
 -- the workplace, once a state is entered
 pub entered : (table : Table) (before after : Workplace) (words : List ℕ) → IsWorkplace table before → IsIn table after words
-    → after.made ≡ before.made → after.blank ≡ before.blank
+    → after.made ≡ before.made
     → ((here : Paced) → IsSamePaced here (paced_from table words) → IsOfTable table here.situation) → IsWorkplace table after
-entered table before after words was inside made blank of = record {
+entered table before after words was inside made of = record {
   here = inside.here;
   made = was.made;
   is_here = inside.is_here;
   is_made = made ∙ was.is_made;
   here_of = of (paced_in inside.here) inside.same;
   made_of = was.made_of;
-  blank = ap (λ (o : ProcessObject). o.created) blank ∙ was.blank;
 }

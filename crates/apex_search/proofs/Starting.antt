@@ -1,12 +1,8 @@
 -- The first state of a search.
-use Rattle.std.proofs.Common.{◌≡◌, ◌≤◌, ◌<◌, ◌^◌, false, List, [], ◌∷◌, length, get_or, sym, ap, subst, arith}
+use Rattle.std.proofs.Common.{◌≡◌, ◌<◌, ◌^◌, sym, ap, subst}
 use Rattle.apex_alike.specs.Canonical.{IsFit}
 use Rattle.apex_laws.specs.Laws.{OfEachTable}
-use Rattle.apex_machine.specs.Deeds.{Objects}
-use Rattle.apex_machine.specs.Machine.{objects_after}
-use Rattle.apex_machine.specs.services.Objects.{objects_of}
-use Rattle.apex_machine.specs.services.ProcessServices.{ProcessObject, process_kind}
-use Rattle.apex_machine.specs.table.Table.{IsLawful, ProcessConfig, Table}
+use Rattle.apex_machine.specs.table.Table.{IsLawful, Table}
 use Rattle.apex_pace.specs.Laws.{IsPace}
 use Rattle.apex_pace.specs.Pace.{Paced, paced_opening}
 use Rattle.apex_choices.specs.Counts.{IsSamePaced}
@@ -17,18 +13,6 @@ use Rattle.apex_forms.specs.Formed.{FormIsReady, FormsAreReady, PartsAreKept, fo
 use Rattle.apex_forms.specs.Stored.{FitsWords}
 use Rattle.apex_search.specs.Terms.{Pace}
 use Rattle.apex_choices.proofs.Same.{paced_is}
-
--- no process is created before any event
-blank_of : (entries : List ProcessConfig) (o : ProcessObject) → 1 ≤ length entries
-    → o ≡ get_or (objects_of process_kind [] entries) 0 o → o.created ≡ false
-blank_of [] o some is = absurd (omega (arith, some))
-blank_of (entry ∷ entries) o some is = ap (λ (x : ProcessObject). x.created) is
-
-pub blank_is : (table : Table) → IsLawful table → (objects : Objects) (o : ProcessObject) → objects ≡ objects_after table []
-    → o ≡ get_or objects.processes 0 o → o.created ≡ false
-blank_is table lawful objects o is first =
-    blank_of table.processes o lawful.process_count.0
-    (subst (λ (x : Objects). o ≡ get_or x.processes 0 o) is first)
 
 pub opened_parts : (table : Table) → IsLawful table → FormsReach table → OfEachTable PartsAreKept → (opened : Paced) → IsSamePaced opened (paced_opening table)
     → IsOfTable table opened.situation

@@ -45,7 +45,7 @@ search_step system words choice =
 abbrev pub search_start : Searched → List ℕ
 search_start system = form_words system.pace system.table (paced_opening system.table)
 
--- the workplace has two situations of the table, and a process that isn't created
+-- the workplace has two situations of the table
 pub record IsWorkplace (table : Table) (workplace : Workplace) : Type 0 where
   pub here : StoredPaced
   pub made : StoredPaced
@@ -53,7 +53,6 @@ pub record IsWorkplace (table : Table) (workplace : Workplace) : Type 0 where
   pub is_made : workplace.made ≡ Some made
   pub here_of : IsOfTable table (paced_in here).situation
   pub made_of : IsOfTable table (paced_in made).situation
-  pub blank : workplace.blank.created ≡ false
 
 -- the choices in the workplace are made in the situation of these words
 pub record IsIn (table : Table) (workplace : Workplace) (words : List ℕ) : Type 0 where

@@ -28,7 +28,6 @@ use apex_forms::{
 use apex_jobs::Jobs;
 use apex_pace::Pace;
 use apex_questions::{Fact, Facts};
-use apex_services::{Objects, ProcessObject};
 use apex_types::{Event, Notices, ProcessId};
 use std::alloc::{AllocError, Global};
 use std::marker::{Model, Sync};
@@ -54,8 +53,6 @@ pub struct Workplace {
     here: Option<PacedSituation>,
     /// The one that the last choice made of it.
     made: Option<PacedSituation>,
-    /// A process that isn't created.
-    blank: ProcessObject,
     notices: Notices,
 }
 
@@ -81,14 +78,11 @@ impl Workplace {
     {
         table.lawful();
         parts_are_kept();
-        let objects = Objects::new(alloc, table)?;
-        let blank = objects.processes[0];
         let here = PacedSituation::opening(alloc, table)?;
         let made = PacedSituation::opening(alloc, table)?;
         Ok(Workplace {
             here: Some(here),
             made: Some(made),
-            blank,
             notices: Notices::new(),
         })
     }
@@ -99,10 +93,9 @@ impl Workplace {
         requires words { IsStored table.now words.now }
         ensures inside { IsIn table.now self.new words.now }
         ensures made { self.new.made ≡ self.old.made }
-        ensures blank { self.new.blank ≡ self.old.blank }
     {
         match self.here.take() {
-            Some(here) => self.here = Some(restore(here, table, self.blank, words)),
+            Some(here) => self.here = Some(restore(here, table, words)),
             None => unreachable!(),
         }
     }
@@ -128,7 +121,6 @@ impl Workplace {
         requires inside { IsIn table.now self.old words.now }
         ensures copied { IsCopied table.now self.new words.now }
         ensures here { self.new.here ≡ self.old.here }
-        ensures blank { self.new.blank ≡ self.old.blank }
     {
         match (self.made.take(), &self.here) {
             (Some(made), Some(here)) => {

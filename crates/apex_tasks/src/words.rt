@@ -1,12 +1,12 @@
 //! The words of the command line.
-ghost use Rattle.std.specs.Prelude.{◌≡◌, false, codes, IfOk, IfErr, IsErrOf, Some, None, map, string_bytes, option_map, option_and_then};
+ghost use Rattle.std.specs.Prelude.{◌≡◌, false, IfOk, IfErr, IsErrOf, Some, None};
+ghost use Rattle.std.specs.Prelude.{map, string_bytes, option_map, option_and_then};
 ghost use Rattle.clap.specs.declared.builder.command.Command.TheViews.{out-Command as fields_of};
-ghost use Rattle.clap.specs.Words.{App, app_of, found_of, rows_of, subcommand_rows_of, with_subcommand};
+ghost use Rattle.clap.specs.Words.{app_of, found_of, rows_of, subcommand_rows_of};
 ghost use Rattle.apex_console.specs.Faults.{IsUsageOrMemory};
-ghost use Rattle.apex_console.specs.Words.{program_alone};
 ghost use Rattle.apex_tasks.specs.Words.{check_command, comments_in, dump_in, form_in, given_by, given_in, given_said, json_view_command, lab, lab_of_pictures, lab_of_searches, lab_of_views, lint_command, lint_in, lint_words_said, question_command, request_in, request_of, request_said, search_command, search_in, search_said, shown_said, showing_in, step_command, svg, svg_in, trace_command, trace_in, view_command, view_of, why_command, why_in};
 
-use apex_console::{CliFault, flag, has_flag, matches_of, option};
+use apex_console::{CliFault, bare_line, flag, has_flag, matches_of, option, with_command};
 use apex_objects::Form;
 use apex_showings::Listing;
 use clap::{ArgMatches, Command};
@@ -136,32 +136,11 @@ fn json_view_command<'a>(alloc: Global, name: &'static str) -> Result<Command<'a
     view_command(alloc, name)?.arg(flag(alloc, "json"))
 }
 
-/// The command line with one command more, if that was made. Fails only for want of memory.
-// A command is dropped here alone, and not where each of the others is made.
-fn with_command<'a>(
-    line: Command<'a>,
-    made: Result<Command<'a>, AllocError>,
-) -> Result<Command<'a>, AllocError>
-    requires { IfOk made (λ c. (fields_of c).has_globals ≡ false) }
-    ensures { (app : App) → IfOk made.entry (λ c. app_of c ≡ app)
-        → IfOk result (λ c. app_of c ≡ with_subcommand (app_of line.entry) app.top) }
-{
-    let command = made?;
-    line.subcommand(command)
-}
-
-/// The program's command line before it has a command.
-fn bare_line<'a>(alloc: Global) -> Command<'a>
-    ensures { app_of result ≡ program_alone (codes "apex_lab") }
-{
-    Command::new(alloc, "apex_lab").subcommand_required(true)
-}
-
 /// The program's command line, with its commands for pictures.
 fn picture_commands<'a>(alloc: Global) -> Result<Command<'a>, AllocError>
     ensures { IfOk result (λ c. app_of c ≡ lab_of_pictures) }
 {
-    let with_svg = with_command(bare_line(alloc), svg_command(alloc))?;
+    let with_svg = with_command(bare_line(alloc, "apex_lab"), svg_command(alloc))?;
     with_command(with_svg, trace_command(alloc))
 }
 

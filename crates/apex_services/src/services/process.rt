@@ -92,7 +92,7 @@ fn fit_delay(fields: &Record, delay: Timeout) -> Option<u32>
 
 impl ProcessObject {
     /// A process that isn't created yet.
-    pub(crate) fn new() -> ProcessObject
+    pub fn new() -> ProcessObject
         ensures { result ≡ record { created = false } }
     {
         ProcessObject { created: false }

@@ -7,8 +7,8 @@ use Rattle.apex_choices.specs.Counts.{StoredPaced, paced_in}
 use Rattle.apex_forms.specs.Restored.{IsOfTable, objects_from, turns_in, worked_in, works_in}
 use Rattle.apex_forms.proofs.restored.restore.Goals as goal
 
-pub restore_objects-requires-clause-words : goal.restore_objects-requires-clause-words
-restore_objects-requires-clause-words c =
+pub restore_objects-requires : goal.restore_objects-requires
+restore_objects-requires c =
     let same : (paced_in c.args.paced).situation ≡ situation_with c.into_parts-store.result.0
     c.into_parts-store.result.1 c.into_parts-store.result.2 c.into_parts-store.result.3 =
     sym (ap (λ (p : StoredPaced). (paced_in p).situation) c.paced.view_is)
