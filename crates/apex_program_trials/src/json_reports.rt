@@ -1,9 +1,8 @@
 //! The report of a history that is written by hand, as JSON: that of the lines, with names of which
 //! JSON escapes a byte, and a mutex that nobody owns.
 
-use crate::histories::log_of;
 use crate::papers::paper;
-use crate::reports::HISTORY;
+use crate::reports::log_of_history;
 use apex_configs::Table;
 use apex_history::{Counted, FailAt, Log};
 use apex_report::{print_report_json, report_of};
@@ -72,7 +71,7 @@ fn printed<R: Abort>(rt: &R, alloc: Global, table: &Table, log: &Log, room: usiz
 #[test]
 fn figures_are_members_of_json_objects(rt: HostRuntime) {
     let table = read_table(rt.alloc(), TABLE.as_bytes()).expect(&rt, "the table is lawful");
-    let log = log_of(&rt, rt.alloc(), &HISTORY);
+    let log = log_of_history(&rt, rt.alloc());
     let paper = printed(&rt, rt.alloc(), &table, &log, ROOM);
     assert!(rt; paper.held().starts_with(FRONT.as_bytes()));
     drop(log);

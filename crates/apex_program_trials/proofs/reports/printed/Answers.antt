@@ -1,6 +1,6 @@
 -- The report is that of the log's entries.
-use Rattle.apex_report_trials.proofs.Made.{holds_of_made}
-use Rattle.apex_report_trials.proofs.reports.printed.Goals as goal
+use Rattle.apex_program_trials.proofs.Made.{holds_of_made}
+use Rattle.apex_program_trials.proofs.reports.printed.Goals as goal
 
 pub print_report-requires : goal.print_report-requires
 print_report-requires g c =

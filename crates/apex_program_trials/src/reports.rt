@@ -81,7 +81,7 @@ const REFUSED: Answer = Answer::As(Reply::Code(ReturnCode::NotAvailable));
 
 /// The history. Its notices are the releases of both processes, a wait of LOGGER that times out, the
 /// releases of CONTROL, and the deadline that it misses.
-pub(crate) const HISTORY: [Row; 15] = [
+const HISTORY: [Row; 15] = [
     STARTED,
     (0, WAITS, BLOCKED, &[]),
     (3, Maker::Ticker, Answer::As(Reply::Advanced(3, 3)), &[]),
@@ -124,6 +124,11 @@ pub(crate) const HISTORY: [Row; 15] = [
     ),
 ];
 
+/// The history, as a log.
+pub(crate) fn log_of_history<R: Abort>(rt: &R, alloc: Global) -> Log {
+    log_of(rt, alloc, &HISTORY)
+}
+
 /// The text of the report of this log, of at most `room` bytes.
 fn printed<R: Abort>(rt: &R, alloc: Global, table: &Table, log: &Log, room: usize) -> FailAt {
     let limit = log.limit();
@@ -135,6 +140,15 @@ fn printed<R: Abort>(rt: &R, alloc: Global, table: &Table, log: &Log, room: usiz
     paper
 }
 
+/// The text of the report of this log, of the table of this text.
+fn report_on_log<R: Abort>(rt: &R, alloc: Global, text: &str, log: Log, room: usize) -> FailAt {
+    let table = read_table(alloc, text.as_bytes()).expect(rt, "the table is lawful");
+    let paper = printed(rt, alloc, &table, &log, room);
+    drop(log);
+    drop(table);
+    paper
+}
+
 /// The text of the report of the history of these rows, of the table of this text.
 pub(crate) fn report_on_rows<R: Abort>(
     rt: &R,
@@ -143,16 +157,12 @@ pub(crate) fn report_on_rows<R: Abort>(
     rows: &[Row],
     room: usize,
 ) -> FailAt {
-    let table = read_table(alloc, text.as_bytes()).expect(rt, "the table is lawful");
-    let log = log_of(rt, alloc, rows);
-    let paper = printed(rt, alloc, &table, &log, room);
-    drop(log);
-    drop(table);
-    paper
+    report_on_log(rt, alloc, text, log_of(rt, alloc, rows), room)
 }
 
 #[test]
 fn two_jobs_a_miss_and_a_timeout(rt: HostRuntime) {
-    let paper = report_on_rows(&rt, rt.alloc(), TABLE, &HISTORY, REPORT.len());
+    let log = log_of_history(&rt, rt.alloc());
+    let paper = report_on_log(&rt, rt.alloc(), TABLE, log, REPORT.len());
     assert!(rt; paper.held() == REPORT.as_bytes());
 }
