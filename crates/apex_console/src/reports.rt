@@ -7,7 +7,7 @@ ghost use Rattle.apex_console.specs.Streams.{HasWritten, HasWrittenSome};
 use crate::faults::CliFault;
 use crate::kernels::{kernel_for, ran};
 use apex_dispatch::Kernel;
-use apex_history::{Counted, Page, Sink, print_history};
+use apex_history::{Counted, Page, Sink};
 use apex_process::QueueStore;
 use apex_schedules::Item;
 use std::alloc::Global;
@@ -58,10 +58,8 @@ pub fn write_report<W: Sink>(
         (report_text report run.now.kernel.table run.now.kernel.machine)) }
     ensures counted { CountsFailure result (failures_of writer.old) (failures_of writer.new) }
 {
-    let kernel = &run.kernel;
-    kernel.holds();
     match report {
-        Report::History => print_history(kernel.table(), kernel.entries(), page, writer),
-        Report::Status => kernel.print_status(page, writer),
+        Report::History => run.kernel.print_history(page, writer),
+        Report::Status => run.kernel.print_status(page, writer),
     }
 }

@@ -5,7 +5,7 @@ ghost use Rattle.apex_machine.specs.services.BufferServices.{BufferObject};
 ghost use Rattle.apex_types.specs.declared.limits.TheConstants.{MOST_ENTRIES, MOST_TICKS};
 ghost use Rattle.apex_types.specs.Limits.{latest};
 ghost use Rattle.apex_machine.specs.processes.Roster.{opening_roster};
-ghost use Rattle.apex_calls.specs.Lines.{IsPrintable};
+ghost use Rattle.apex_calls.specs.Lines.{IsPrintable, lines_of};
 ghost use Rattle.apex_machine.specs.text.Listing.{listing, listing_of};
 ghost use Rattle.apex_machine.specs.Machine.{opening, accept, turn, tick, run, replay, events_of, situation_of};
 ghost use Rattle.apex_machine.specs.services.SemaphoreServices.{SemaphoreObject};
@@ -19,7 +19,7 @@ ghost use Rattle.apex_dispatch.specs.Situations.{situation_in};
 use crate::deeds::Deed;
 use crate::situations::Situation;
 use apex_configs::Table;
-use apex_history::{Counted, Entries, Log, Page, Sink};
+use apex_history::{Counted, Entries, Log, Page, Sink, print_history};
 use apex_services::Listing;
 use apex_store::Store;
 use apex_types::{BufferId, CoreId, Event, Full, LentEntry, Notices, SemaphoreId, Who};
@@ -271,6 +271,25 @@ impl<S: Store> Kernel<S> {
         ensures counted { CountsFailure result (failures_of writer.old) (failures_of writer.new) }
     {
         self.listing().print(page, writer)
+    }
+
+    /// Writes the lines of the history so far, many of them with one write. Takes no memory: the lines
+    /// are gathered in the page.
+    ///
+    /// If a write failed, a prefix of the lines was written. The text that the page held before is
+    /// forgotten.
+    pub fn print_history<W: Sink>(&self, page: &mut Page, writer: &mut Counted<W>) -> io::Result<()>
+        ensures ok { OnOk result
+            (Appends (W.contents (inner_of writer.old)) (W.contents (inner_of writer.new))
+            (lines_of self.now.table self.now.machine.history)) }
+        ensures err { OnErr result
+            (AppendsBeginning (W.contents (inner_of writer.old)) (W.contents (inner_of writer.new))
+            (lines_of self.now.table self.now.machine.history)) }
+        ensures empty { page.new ≡ [] }
+        ensures counted { CountsFailure result (failures_of writer.old) (failures_of writer.new) }
+    {
+        self.holds();
+        print_history(&self.table, self.entries(), page, writer)
     }
 
     /// The time in ticks.

@@ -17,7 +17,7 @@ use crate::faults::first_fault;
 use apex_configs::Table;
 use apex_console::{CliFault, Run};
 use apex_dispatch::{Kernel, events_in};
-use apex_history::{Counted, Page, Sink, print_history};
+use apex_history::{Counted, Page, Sink};
 use apex_objects::{Form, ObjectLines, print_history_objects, print_listing_objects};
 use apex_process::QueueStore;
 use apex_report::{Report, print_report, print_report_json, report_of};
@@ -38,8 +38,7 @@ fn print_lines<W: Sink>(
         (W.contents (inner_of writer.old)) (failures_of writer.old) (fault_in result)
         (W.contents (inner_of writer.new)) (failures_of writer.new) }
 {
-    kernel.holds();
-    match print_history(kernel.table(), kernel.entries(), page, writer) {
+    match kernel.print_history(page, writer) {
         Ok(()) => Ok(()),
         Err(_) => Err(CliFault::Write),
     }

@@ -4,7 +4,7 @@ use Rattle.apex_views.proofs.ListingEndings.{lists_prefix, lists_whole}
 use Rattle.apex_views.proofs.listings.print_lines.Goals as goal
 
 pub returns-in-Ok : goal.returns-in-Ok
-returns-in-Ok g c = lists_whole (Lines Text) c.args.kernel.now.table c.args.kernel.now.machine (rw (c.table.ensures, c.entries.ensures) at c.in-Ok.ensures.ok) c.in-Ok.ensures.counted
+returns-in-Ok g c = lists_whole (Lines Text) c.args.kernel.now.table c.args.kernel.now.machine c.in-Ok.ensures.ok c.in-Ok.ensures.counted
 
 pub returns-in-Err : goal.returns-in-Err
-returns-in-Err g c = lists_prefix (Lines Text) c.args.kernel.now.table c.args.kernel.now.machine (rw (c.table.ensures, c.entries.ensures) at c.in-Err.ensures.err) c.in-Err.ensures.counted
+returns-in-Err g c = lists_prefix (Lines Text) c.args.kernel.now.table c.args.kernel.now.machine c.in-Err.ensures.err c.in-Err.ensures.counted
