@@ -2,22 +2,16 @@
 use crate::cases::Case;
 use apex_lint::{Form, Report, Verdict, report_on};
 use apex_warnings::allowed_in;
-use std::alloc::{AllocError, Global};
-use std::str;
-
-/// A case with another answer: its title and the report that was made.
-#[derive(Drop)]
-pub struct Differing {
-    pub title: String,
-    pub report: String,
-}
+use std::alloc::{AllocError, AllocGlobal, Global};
+use std::process::ExitCode;
+use std::{io, str};
 
 /// What was compared.
-#[derive(Drop)]
-pub struct Played {
+#[derive(Clone, Copy)]
+pub struct Counts {
     pub tables: usize,
     pub refused: usize,
-    pub differing: Vec<Differing>,
+    pub differing: usize,
 }
 
 fn status_word(verdict: Verdict) -> &'static str {
@@ -28,78 +22,77 @@ fn status_word(verdict: Verdict) -> &'static str {
     }
 }
 
-/// The words of the warnings that are left out, by the rest of the answer.
-fn allowed_by<'a>(alloc: Global, rest: Option<&'a str>) -> Result<Vec<&'a str>, AllocError> {
-    match rest {
-        Some(text) => match allowed_in(alloc, text)? {
-            Some(words) => Ok(words),
-            None => Ok(Vec::new(alloc)),
-        },
+/// The words of the warnings that are left out.
+fn allowed_by<'a>(alloc: Global, request: &'a str) -> Result<Vec<&'a str>, AllocError> {
+    let words = request.strip_prefix("allow ").unwrap_or("");
+    match allowed_in(alloc, words)? {
+        Some(words) => Ok(words),
         None => Ok(Vec::new(alloc)),
     }
 }
 
 /// The report on the case's table, in the form for which the answer asks.
-fn report_of(alloc: Global, case: &Case, words: &[&str]) -> Result<Report, AllocError> {
-    let table = case.table.as_bytes();
-    match words {
-        [_, "json", ..] => report_on(alloc, Form::Json, "a \"table\"", &[], table),
-        [_, "allow", allowed] => {
-            let allowed = allowed_by(alloc, Some(*allowed))?;
-            report_on(alloc, Form::Lines, "-", &allowed, table)
-        }
-        _ => report_on(alloc, Form::Lines, "-", &[], table),
-    }
+fn report_of(alloc: Global, case: Case<'_>) -> Result<Report, AllocError> {
+    let (form, file) = match case.request {
+        "json" => (Form::Json, "a \"table\""),
+        _ => (Form::Lines, "-"),
+    };
+    let allowed = allowed_by(alloc, case.request)?;
+    report_on(alloc, form, file, &allowed, case.table.as_bytes())
 }
 
-impl Played {
-    /// Compares the case with the report on its table.
-    fn add(&mut self, alloc: Global, case: &Case) -> Result<(), AllocError> {
-        let words: Vec<&str> = case.answer.as_str().split(' ').collect(alloc)?;
-        let report = report_of(alloc, case, &words)?;
+impl Counts {
+    /// Compares the case with the report on its table, and prints the report if it is another one.
+    fn add<R>(&mut self, rt: &R, case: Case<'_>) -> io::Result<()>
+    where
+        R: Print + AllocGlobal,
+    {
+        let Report { text, verdict } = report_of(rt.alloc(), case)?;
         self.tables = self.tables.saturating_add(1);
-        if report.verdict == Verdict::Refused {
+        if matches!(verdict, Verdict::Refused) {
             self.refused = self.refused.saturating_add(1);
         }
-        let is_status = match words.first() {
-            Some(word) => *word == status_word(report.verdict),
-            None => false,
-        };
-        if is_status && report.text.as_slice() == case.report.as_bytes() {
+        if case.status == status_word(verdict) && case.report.as_bytes() == text.as_slice() {
             return Ok(());
         }
-        let made = match str::from_utf8(report.text.as_slice()) {
-            Ok(text) => String::from_str(alloc, text)?,
-            Err(_) => String::from_str(alloc, "no text")?,
-        };
-        self.differing.push(Differing {
-            title: case.title.clone()?,
-            report: made,
-        })?;
-        Ok(())
+        self.differing = self.differing.saturating_add(1);
+        let title = case.title;
+        let report = str::from_utf8(&text).unwrap_or("no text");
+        println!(rt; "{title}:\n{report}")
+    }
+
+    /// Prints the counts.
+    fn print<R: Print>(self, rt: &R) -> io::Result<()> {
+        let Counts {
+            tables,
+            refused,
+            differing,
+        } = self;
+        println!(rt;
+            "{tables} mistaken tables, {refused} of them refused; {differing} with another answer"
+        )
     }
 }
 
-/// Compares all cases of the text. The lines before the first case are a comment.
-pub fn play(alloc: Global, text: &str) -> Result<Played, AllocError> {
-    let mut played = Played {
+/// Compares all cases of the text. What stands before the first case is a comment.
+pub fn play<R>(rt: &R, text: &str) -> io::Result<ExitCode>
+where
+    R: Print + AllocGlobal,
+{
+    let mut counts = Counts {
         tables: 0,
         refused: 0,
-        differing: Vec::new(alloc),
+        differing: 0,
     };
-    let mut current: Option<Case> = None;
-    for line in text.lines() {
-        if let Some(title) = line.strip_prefix("case ") {
-            if let Some(case) = &current {
-                played.add(alloc, case)?;
-            }
-            current = Some(Case::new(alloc, title)?);
-        } else if let Some(case) = &mut current {
-            case.take(alloc, line)?;
-        }
+    let mut cases = text.split("\ncase ");
+    cases.next();
+    for case in cases {
+        counts.add(rt, Case::of(case))?;
     }
-    if let Some(case) = &current {
-        played.add(alloc, case)?;
+    counts.print(rt)?;
+    if counts.differing == 0 {
+        Ok(ExitCode::SUCCESS)
+    } else {
+        Ok(ExitCode::FAILURE)
     }
-    Ok(played)
 }
