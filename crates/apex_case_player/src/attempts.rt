@@ -6,6 +6,7 @@ use crate::faults::CaseFault;
 use crate::reports::Report;
 use crate::requests::Request;
 use crate::rows::cut_line;
+use crate::texts::Text;
 use std::alloc::Global;
 
 /// The arguments that ask for a check.
@@ -17,6 +18,16 @@ pub enum Calls {
     Reads,
     /// The writes on standard output.
     Writes,
+}
+
+impl Calls {
+    /// The name of one of them.
+    fn name(self) -> &'static str {
+        match self {
+            Calls::Reads => "read",
+            Calls::Writes => "write",
+        }
+    }
 }
 
 /// The part of a history's line in which a byte is changed, by the verdict that the change has to
@@ -54,6 +65,27 @@ pub struct Change {
     pub(crate) part: Part,
 }
 
+impl Change {
+    /// Writes what the program is to say if it checks these lines with the change: on standard
+    /// output if the line departs, and else on standard error.
+    pub(crate) fn put_wanted(self, wanted: &mut Text, lines: &str) {
+        let number = (self.line as u64).saturating_add(1);
+        wanted.clear();
+        match self.part {
+            Part::Core => {}
+            Part::Name => {
+                wanted.put("apex: history refused: BadLine at line ");
+                wanted.put_count(number, "\n");
+            }
+            Part::Rest => {
+                wanted.put("departs at ");
+                wanted.put_count(number, "\nexpected: ");
+                wanted.put_line(lines.lines().nth(self.line).unwrap_or(""));
+            }
+        }
+    }
+}
+
 /// One call of the program, by which a case is played.
 #[derive(Clone, Copy)]
 pub enum Attempt {
@@ -73,18 +105,14 @@ pub enum Attempt {
 impl Attempt {
     /// Begins the attempt in the report; a check is a part of the attempt before it.
     pub(crate) fn begin(self, report: &mut Report) {
-        match self {
-            Attempt::Whole => report.begin("", 0),
-            Attempt::Check => {}
-            Attempt::Fail(Calls::Reads, call) | Attempt::Pass(Calls::Reads, call) => {
-                report.begin("read", call)
-            }
-            Attempt::Fail(Calls::Writes, call) | Attempt::Pass(Calls::Writes, call) => {
-                report.begin("write", call)
-            }
-            Attempt::Cut(end) => report.begin("cut", end as u64),
-            Attempt::Change(change) => report.begin("byte", change.at as u64),
-        }
+        let (name, number) = match self {
+            Attempt::Whole => ("", 0),
+            Attempt::Check => return,
+            Attempt::Fail(calls, call) | Attempt::Pass(calls, call) => (calls.name(), call),
+            Attempt::Cut(end) => ("cut", end as u64),
+            Attempt::Change(change) => ("byte", change.at as u64),
+        };
+        report.begin(name, number);
     }
 
     /// These devices, but for the call that fails.
@@ -121,28 +149,6 @@ fn put_calls(report: &mut Report, attempts: &mut Vec<Attempt>, calls: Calls, las
     );
 }
 
-/// Each byte of a line, which begins at this place, is changed in turn.
-fn put_line(
-    report: &mut Report,
-    attempts: &mut Vec<Attempt>,
-    begins: usize,
-    line: usize,
-    text: &str,
-) {
-    let mut spaces: u64 = 0;
-    for (place, byte) in text.bytes().enumerate() {
-        let change = Change {
-            at: begins.saturating_add(place),
-            line,
-            part: Part::of(spaces, byte),
-        };
-        put(report, attempts, Attempt::Change(change));
-        if byte == b' ' {
-            spaces = spaces.saturating_add(1);
-        }
-    }
-}
-
 impl<'a> Case<'a> {
     /// The attempts by which the case is played, one after the other.
     pub fn attempts(&self, alloc: Global, report: &mut Report) -> Vec<Attempt> {
@@ -174,11 +180,20 @@ impl<'a> Case<'a> {
     fn put_changes(&self, report: &mut Report, attempts: &mut Vec<Attempt>, wanted: usize) {
         let (separator, lines) = cut_line(self.after.as_str());
         let before = self.table.as_str().len().saturating_add(separator.len());
-        let mut begins = before.saturating_add(1);
-        for (line, text) in lines.lines().enumerate() {
-            if line < wanted {
-                put_line(report, attempts, begins, line, text);
-                begins = begins.saturating_add(text.len()).saturating_add(1);
+        let begins = before.saturating_add(1);
+        let mut line: usize = 0;
+        let mut spaces: u64 = 0;
+        for (place, byte) in lines.bytes().enumerate() {
+            if byte == b'\n' {
+                line = line.saturating_add(1);
+                spaces = 0;
+            } else if line < wanted {
+                let at = begins.saturating_add(place);
+                let part = Part::of(spaces, byte);
+                put(report, attempts, Attempt::Change(Change { at, line, part }));
+                if byte == b' ' {
+                    spaces = spaces.saturating_add(1);
+                }
             }
         }
     }
@@ -186,28 +201,26 @@ impl<'a> Case<'a> {
     /// The request of an attempt.
     pub fn request(&self, attempt: Attempt) -> Request<'_> {
         let table = self.table.as_str();
-        let given = Request {
-            arguments: self.given_arguments(),
-            texts: [table, self.after.as_str(), ""],
-            changed: None,
-            devices: attempt.devices(self.devices),
-        };
-        match attempt {
-            Attempt::Check => Request {
+        if matches!(attempt, Attempt::Check) {
+            return Request {
                 arguments: Some(CHECK),
-                texts: [table, "\n%%\n", self.written.as_str()],
+                texts: [table, "\n%%\n", self.progress.written.as_str()],
                 changed: None,
                 devices: Devices::sound(BRIEF),
-            },
-            Attempt::Cut(end) => Request {
-                texts: [table.get(..end).unwrap_or(table), self.after.as_str(), ""],
-                ..given
-            },
-            Attempt::Change(change) => Request {
-                changed: Some(change.at),
-                ..given
-            },
-            _ => given,
+            };
+        }
+        let mut read = table;
+        let mut changed = None;
+        match attempt {
+            Attempt::Cut(end) => read = table.get(..end).unwrap_or(table),
+            Attempt::Change(change) => changed = Some(change.at),
+            _ => {}
+        }
+        Request {
+            arguments: self.arguments.fetched(),
+            texts: [read, self.after.as_str(), ""],
+            changed,
+            devices: attempt.devices(self.devices),
         }
     }
 }

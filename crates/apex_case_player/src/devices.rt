@@ -1,4 +1,5 @@
 //! The devices that the program runs over in a case.
+use crate::reports::Report;
 
 /// Room on standard output for the longest history of the cases, in bytes; also the most bytes that
 /// a read gives.
@@ -33,5 +34,16 @@ impl Devices {
             room,
             failing_error: 0,
         }
+    }
+
+    /// Takes a line about the devices; whether it is one.
+    pub(crate) fn put(&mut self, report: &mut Report, field: &str, rest: &str) -> bool {
+        match field {
+            "gives" => self.gives = report.number_of(rest) as usize,
+            "room" => self.room = report.number_of(rest) as usize,
+            "mute" => self.failing_error = 1,
+            _ => return false,
+        }
+        true
     }
 }

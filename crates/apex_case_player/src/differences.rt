@@ -1,8 +1,8 @@
 //! The differences between an outcome and the expected one.
-use crate::cases::number_of;
 use crate::faults::CaseFault;
 use crate::reports::Report;
 use crate::requests::Outcome;
+use crate::rows::cut_word;
 use std::str;
 
 const USAGE: &str =
@@ -36,12 +36,18 @@ impl<'a> TextOutcome<'a> {
         }
     }
 
-    /// Whether the program refuses its arguments or the bytes that it reads, and writes nothing else.
+    /// Whether the program refuses its arguments or the bytes that it reads, and writes nothing
+    /// else.
     pub(crate) fn is_refused(&self) -> bool {
-        let is_of_table = self.error.starts_with("apex: table refused: ");
-        let is_of_text = is_of_table || self.error == "apex: no separator\n";
-        let is_of_arguments = self.status == 2 && self.error == USAGE;
-        (is_of_arguments || (self.status == 3 && is_of_text)) && self.output.is_empty()
+        let is_refusal = match self.status {
+            2 => self.error == USAGE,
+            3 => {
+                self.error == "apex: no separator\n"
+                    || self.error.starts_with("apex: table refused: ")
+            }
+            _ => false,
+        };
+        is_refusal && self.output.is_empty()
     }
 }
 
@@ -58,21 +64,19 @@ fn lines_of(history: &str, word: &str) -> u64 {
 
 /// Compares the number of lines of a word with the one after the word.
 fn compare_count(report: &mut Report, count: &str, lines: &str) {
-    let (word, number) = count.split_once(' ').unwrap_or((count, ""));
-    match number_of(number) {
-        Ok(wanted) => report.compare_numbers(word, wanted, lines_of(lines, word)),
-        Err(fault) => report.blame(fault),
-    }
+    let (word, number) = cut_word(count);
+    let wanted = report.number_of(number);
+    report.compare_numbers(word, wanted, lines_of(lines, word));
 }
 
 /// Compares lines with what the lines of a case expect of them in part: the number of each core's
 /// and of the ticker's, as `lines core0 3`, and the texts in them, as `contains TEXT`.
 pub(crate) fn compare_parts(report: &mut Report, case: &str, lines: &str) {
     for expected in case.lines() {
-        match expected.split_once(' ') {
-            Some(("lines", count)) => compare_count(report, count, lines),
-            Some(("contains", text)) => report.require(lines.contains(text), expected),
-            _ => {}
+        if let Some(count) = expected.strip_prefix("lines ") {
+            compare_count(report, count, lines);
+        } else if let Some(text) = expected.strip_prefix("contains ") {
+            report.require(lines.contains(text), expected);
         }
     }
 }

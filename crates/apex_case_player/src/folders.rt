@@ -3,6 +3,7 @@ use crate::faults::CaseFault;
 use std::alloc::{AllocError, AllocGlobal, Global};
 use std::fs;
 use std::fs::{DirEntry, Files};
+use std::mem::drop;
 
 /// A file of the folder that has rows, is a table, or is beside a table.
 #[derive(Drop)]
@@ -25,7 +26,8 @@ impl CaseFile {
 /// The text of the file with this name, if there is one.
 pub(crate) fn text_in<'a>(files: &'a [CaseFile], example: &str, ending: &str) -> Option<&'a str> {
     for file in files {
-        if file.split_name() == (example, ending) {
+        let (name, end) = file.split_name();
+        if name == example && end == ending {
             return Some(file.text());
         }
     }
@@ -85,7 +87,9 @@ pub fn read_folder<R: Files + AllocGlobal + Clone + Drop>(
 ) -> Result<(), CaseFault> {
     for entry in fs::read_dir(rt, folder)? {
         let entry = entry?;
-        insert_entry(files, rt, &entry)?;
+        let inserted = insert_entry(files, rt, &entry);
+        drop(entry);
+        inserted?;
     }
     Ok(())
 }

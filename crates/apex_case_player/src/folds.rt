@@ -39,30 +39,26 @@ pub fn unfolded(alloc: Global, text: &str) -> Text {
 /// The text that a line gives, in which `; ` is a line feed.
 pub(crate) fn lines_of(alloc: Global, line: &str) -> Text {
     let line = unfolded(alloc, line);
-    let mut lines = Text::new(alloc);
-    lines.put_replaced(line.as_str(), "; ", "\n", usize::MAX);
-    lines.blame_with(&line);
+    let lines = line.replaced(alloc, "; ", "\n", usize::MAX);
     drop(line);
     lines
 }
 
 /// The table with the new lines in place of the old ones, at the first `most` places; `Edit` if the
 /// old ones are nowhere in it.
-fn edited(alloc: Global, table: &str, old: &Text, new: &Text, most: usize) -> Text {
-    let mut text = Text::new(alloc);
+fn edited(alloc: Global, table: &Text, old: &Text, new: &Text, most: usize) -> Text {
+    let mut text = table.replaced(alloc, old.as_str(), new.as_str(), most);
     text.blame_with(old);
     text.blame_with(new);
-    if old.as_str().is_empty() || !table.contains(old.as_str()) {
+    if old.as_str().is_empty() || !table.as_str().contains(old.as_str()) {
         text.blame(CaseFault::Edit);
-    } else {
-        text.put_replaced(table, old.as_str(), new.as_str(), most);
     }
     text
 }
 
 /// The table with the lines that `new` gives in place of those that `old` gives, at the first
 /// `most` places; `Edit` if the old ones are nowhere in it.
-pub(crate) fn replaced(alloc: Global, table: &str, old: &str, new: &str, most: usize) -> Text {
+pub(crate) fn replaced(alloc: Global, table: &Text, old: &str, new: &str, most: usize) -> Text {
     let old = lines_of(alloc, old);
     let new = lines_of(alloc, new);
     let text = edited(alloc, table, &old, &new, most);

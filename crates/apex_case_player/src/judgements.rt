@@ -1,7 +1,7 @@
 //! The judgement on each attempt of a case: its outcome beside the expected one.
 use crate::attempts::{Attempt, Calls, Change, Part};
 use crate::cases::Case;
-use crate::differences::{TextOutcome, compare_parts, compare_refusal, whole_lines};
+use crate::differences::{TextOutcome, compare_parts, compare_refusal};
 use crate::faults::CaseFault;
 use crate::plans::{Kind, Written};
 use crate::reports::Report;
@@ -13,12 +13,12 @@ impl<'a> Case<'a> {
     /// the program wrote are to be checked.
     pub fn judge(&mut self, report: &mut Report, attempt: Attempt, outcome: &Outcome<'_>) -> bool {
         attempt.begin(report);
-        self.is_to_check = false;
+        self.progress.is_to_check = false;
         match TextOutcome::of(outcome) {
             Ok(outcome) => self.judge_text(report, attempt, &outcome),
             Err(fault) => report.blame(fault),
         }
-        self.is_to_check
+        self.progress.is_to_check
     }
 
     fn judge_text(&mut self, report: &mut Report, attempt: Attempt, outcome: &TextOutcome<'_>) {
@@ -45,49 +45,45 @@ impl<'a> Case<'a> {
 
     /// Compares an outcome with the expected one.
     fn compare_outcome(&mut self, report: &mut Report, outcome: &TextOutcome<'_>) {
-        report.compare(self.expected.error.as_str(), outcome.error);
-        report.compare_numbers("status", self.expected.status, outcome.status);
-        if let Some(verdict) = self.expected.verdict {
-            compare_parts(report, self.lines, outcome.output);
-            self.ask_check(outcome.output);
-            return report.compare(verdict, self.wanted.as_str());
+        self.expected.compare_status(report, outcome);
+        match self.expected.verdict {
+            Some(verdict) => {
+                compare_parts(report, self.lines, outcome.output);
+                self.progress.ask_check(outcome.output);
+                report.compare(verdict, self.progress.wanted.as_str());
+            }
+            None => self.compare_output(report, outcome.output),
         }
+    }
+
+    /// Compares what is on standard output, which has room for a part of it.
+    fn compare_output(&self, report: &mut Report, got: &str) {
         let output = self.expected.output.as_str();
         match self.kind {
-            Kind::Row => report.compare_end(output, outcome.output),
+            Kind::Row => report.compare_end(output, got),
             Kind::Example(_) => {
-                report.compare(
-                    output.get(..self.devices.room).unwrap_or(output),
-                    outcome.output,
-                )
+                report.compare(output.get(..self.devices.room).unwrap_or(output), got)
             }
             Kind::Reading { .. } => {}
         }
     }
 
-    /// The lines are to be checked, and to be legal.
-    fn ask_check(&mut self, lines: &str) {
-        self.written.clear();
-        self.written.put(lines);
-        self.wanted.clear();
-        self.wanted.put("legal ");
-        self.wanted.put_number(lines.lines().count() as u64);
-        self.is_to_check = true;
-    }
-
     /// Judges the outcome of the case as it is. The lines of a replay are legal: `check` makes them
     /// by a kernel over the other store.
     fn judge_whole(&mut self, report: &mut Report, outcome: &TextOutcome<'_>) {
-        self.whole.put(outcome.output);
-        if self.is_for("replay") && outcome.failed_writes == 0 && !outcome.output.is_empty() {
-            self.ask_check(outcome.output);
+        self.progress.whole.put(outcome.output);
+        if self.arguments.is_for("replay")
+            && outcome.failed_writes == 0
+            && !outcome.output.is_empty()
+        {
+            self.progress.ask_check(outcome.output);
         }
         self.compare_outcome(report, outcome);
     }
 
     /// Judges the verdict of `check` on the lines that the program wrote.
     fn judge_check(&self, report: &mut Report, outcome: &TextOutcome<'_>) {
-        let wanted = self.wanted.as_str();
+        let wanted = self.progress.wanted.as_str();
         let verdict = outcome.output.trim_end();
         if self.expected.verdict.is_some() {
             report.compare(wanted, verdict);
@@ -104,56 +100,30 @@ impl<'a> Case<'a> {
         report.compare_numbers("calls that fail", 1, outcome.failed_writes);
         report.compare_numbers("status", 6, outcome.status);
         report.compare("apex: write failed\n", outcome.error);
-        if self.expected.verdict.is_some() && self.is_for("run") {
-            let lines = whole_lines(outcome.output);
-            let is_shorter = lines.lines().count() < self.whole.as_str().lines().count();
-            report.require(is_shorter, "the output is shorter than the whole one");
-            return self.ask_check(lines);
+        if self.expected.verdict.is_some() && self.arguments.is_for("run") {
+            self.progress.check_part(report, outcome.output);
+        } else {
+            self.progress.require_part(report, outcome.output);
         }
-        let whole = self.whole.as_str();
-        let is_prefix = whole.starts_with(outcome.output) && outcome.output.len() < whole.len();
-        report.require(is_prefix, "the output is a prefix of the whole one");
     }
 
     /// Judges the answer to the table cut after this number of bytes, which is that to the whole
     /// one, or a refusal.
     fn judge_cut(&mut self, report: &mut Report, end: usize, outcome: &TextOutcome<'_>) {
         self.compare_outcome(report, outcome);
-        match report.fault() {
-            None => {
-                self.accepted = self.accepted.saturating_add(1);
-                self.shortest = self.shortest.min(end);
-            }
-            Some(CaseFault::Differs) if outcome.is_refused() => {
-                self.is_to_check = false;
-                report.clear_fault();
-            }
-            Some(_) => {}
-        }
+        self.progress.count_cut(report, end, outcome.is_refused());
     }
 
     /// Judges the verdict on a history of which this byte was changed: on standard output if its
     /// line departs, and else on standard error.
     fn judge_change(&mut self, report: &mut Report, change: Change, outcome: &TextOutcome<'_>) {
         let (_, lines) = cut_line(self.after.as_str());
-        let number = (change.line as u64).saturating_add(1);
-        self.wanted.clear();
+        change.put_wanted(&mut self.progress.wanted, lines);
+        let wanted = self.progress.wanted.as_str();
         match change.part {
             Part::Core => report.compare("", outcome.error),
-            Part::Name => {
-                self.wanted.put("apex: history refused: BadLine at line ");
-                self.wanted.put_number(number);
-                self.wanted.put("\n");
-                return compare_refusal(report, outcome, 3, self.wanted.as_str());
-            }
-            Part::Rest => {
-                self.wanted.put("departs at ");
-                self.wanted.put_number(number);
-                self.wanted.put("\nexpected: ");
-                self.wanted
-                    .put_line(lines.lines().nth(change.line).unwrap_or(""));
-                report.compare(self.wanted.as_str(), outcome.output);
-            }
+            Part::Name => return compare_refusal(report, outcome, 3, wanted),
+            Part::Rest => report.compare(wanted, outcome.output),
         }
         report.compare_numbers("status", 1, outcome.status);
     }
@@ -170,12 +140,7 @@ impl<'a> Case<'a> {
             let got = lines.lines().count().min(wanted);
             report.compare_numbers("lines", wanted as u64, got as u64);
         }
-        if self.whole.whole().is_err()
-            || self.written.whole().is_err()
-            || self.wanted.whole().is_err()
-        {
-            report.blame(CaseFault::Memory);
-        }
+        self.progress.blame(report);
         report.end_case(written, self.expected.differs);
     }
 
@@ -184,9 +149,9 @@ impl<'a> Case<'a> {
     fn compare_cuts(&self, report: &mut Report, wanted: u64) {
         if let Kind::Reading { table, .. } = self.kind {
             let end = table.trim_end().len();
-            let got = self.shortest.min(table.len());
+            let got = self.progress.shortest.min(table.len());
             report.compare_numbers("bytes that are accepted", end as u64, got as u64);
         }
-        report.compare_numbers("cuts that are accepted", wanted, self.accepted);
+        report.compare_numbers("cuts that are accepted", wanted, self.progress.accepted);
     }
 }

@@ -3,20 +3,25 @@
 //! with its cases and its readings.
 #![tactic(auto)]
 
+mod arguments;
 mod attempts;
 mod cases;
+mod details;
 mod devices;
 mod differences;
+mod expectations;
 mod faults;
 mod folders;
 mod folds;
 mod judgements;
 mod outlines;
 mod plans;
+mod progress;
 mod reports;
 mod requests;
 mod rows;
 mod texts;
+mod trials;
 
 pub use attempts::{Attempt, Calls, Change, Part};
 pub use cases::Case;

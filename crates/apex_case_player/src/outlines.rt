@@ -1,5 +1,6 @@
 //! The partition table of a row's case, which has it in short.
 use crate::faults::CaseFault;
+use crate::rows::cut_word;
 use crate::texts::Text;
 use std::alloc::Global;
 
@@ -84,7 +85,7 @@ fn put_key(table: &mut Text, key: &str, value: &str) {
 
 /// Writes the section that a line gives, if it gives one.
 fn put_section(table: &mut Text, line: &str) {
-    let (kind, words) = line.split_once(' ').unwrap_or((line, ""));
+    let (kind, words) = cut_word(line);
     let keys = keys_of(kind);
     if kind == "process" {
         put_process(table, keys, words);
@@ -108,18 +109,18 @@ fn put_process(table: &mut Text, keys: &[&str], words: &str) {
 /// Writes the head of a section: the values of these keys, and after them `KEY=VALUE`, or a key
 /// that is true.
 fn put_keys(table: &mut Text, kind: &str, keys: &[&str], values: &str) {
-    let mut words = values.split(' ');
+    let mut keys = keys.iter();
     table.put("[[");
     table.put(kind);
     table.put("]]\n");
-    for key in keys {
-        match words.next() {
-            Some(value) => put_key(table, key, value),
-            None => table.blame(CaseFault::Outline),
-        }
-    }
-    for word in words {
-        let (key, value) = word.split_once('=').unwrap_or((word, "true"));
+    for word in values.split(' ') {
+        let (key, value) = match keys.next() {
+            Some(key) => (*key, word),
+            None => word.split_once('=').unwrap_or((word, "true")),
+        };
         put_key(table, key, value);
+    }
+    if keys.next().is_some() {
+        table.blame(CaseFault::Outline);
     }
 }

@@ -3,7 +3,7 @@
 use crate::faults::CaseFault;
 use crate::folders::{CaseFile, text_in};
 use crate::reports::Report;
-use crate::rows::{cases_of, cut_line, has_clause, is_silent};
+use crate::rows::{cases_of, cut_line, cut_word, has_clause, is_silent};
 use std::alloc::Global;
 
 /// What a case is of.
@@ -73,8 +73,7 @@ impl<'a> Plan<'a> {
         }
     }
 
-    fn put_case(&mut self, kind: Kind<'a>, group: &'a str, case: &'a str) {
-        let (name, lines) = cut_line(case);
+    fn put_case(&mut self, kind: Kind<'a>, group: &'a str, name: &'a str, lines: &'a str) {
         self.put(Entry::Case(Written {
             kind,
             group,
@@ -105,15 +104,15 @@ impl<'a> Plan<'a> {
     /// Takes the cases of the row of this text, which begins with its name.
     fn put_row(&mut self, report: &mut Report, text: &'a str) {
         let mut cases = text.split("\ncase ");
-        let (row, lines) = cut_line(cases.next().unwrap_or(""));
-        check_head(report, row, text, lines);
+        let (row, head) = cut_line(cases.next().unwrap_or(""));
+        check_head(report, row, text, head);
         let mut count: u64 = 0;
         for case in cases {
-            let (name, _) = cut_line(case);
-            if !has_clause(lines, name) {
+            let (name, lines) = cut_line(case);
+            if !has_clause(head, name) {
                 report.complain(row, name, "no guard and no effect of the row");
             }
-            self.put_case(Kind::Row, row, case);
+            self.put_case(Kind::Row, row, name, lines);
             count = count.saturating_add(1);
         }
         report.count(row, count);
@@ -124,13 +123,14 @@ impl<'a> Plan<'a> {
     fn put_examples(&mut self, report: &mut Report, files: &'a [CaseFile]) {
         for file in files {
             let (example, ending) = file.split_name();
-            let cases = text_in(files, example, "cases");
-            match (ending, text_in(files, example, "toml"), cases) {
-                ("toml", Some(table), Some(cases)) => {
-                    self.put_example(report, example, table, cases)
+            match ending {
+                "toml" => match text_in(files, example, "cases") {
+                    Some(cases) => self.put_example(report, example, file.text(), cases),
+                    None => report.complain(example, "cases", "there is no such file"),
+                },
+                "cases" if text_in(files, example, "toml").is_none() => {
+                    report.complain(example, "table", "there is no such file")
                 }
-                ("toml", _, None) => report.complain(example, "cases", "there is no such file"),
-                ("cases", None, _) => report.complain(example, "table", "there is no such file"),
                 _ => {}
             }
         }
@@ -145,15 +145,17 @@ impl<'a> Plan<'a> {
         table: &'a str,
         cases: &'a str,
     ) {
-        report.examples = report.examples.saturating_add(1);
-        let before = report.histories;
         let mut parts = cases.split("\ncase ");
         report.complain_of_lines(example, parts.next().unwrap_or(""), "no case");
+        let kind = Kind::Example(table);
+        let mut count: u64 = 0;
         for case in parts {
-            report.histories = report.histories.saturating_add(1);
-            self.put_case(Kind::Example(table), example, case);
+            let (name, lines) = cut_line(case);
+            self.put_case(kind, example, name, lines);
+            count = count.saturating_add(1);
         }
-        if report.histories == before {
+        report.count_example(count);
+        if count == 0 {
             report.complain(example, "cases", "there is none");
         }
     }
@@ -173,25 +175,20 @@ impl<'a> Plan<'a> {
     /// Takes the readings of a table, place by place.
     fn put_places(&mut self, group: &'a str, table: &'a str, readings: &'a str) {
         let mut places = readings.split("\nat ");
-        let first = places.next().unwrap_or("");
-        self.put_place(group, Kind::Reading { table, at: "" }, first);
+        self.put_place(group, table, "", places.next().unwrap_or(""));
         for place in places {
             let (at, lines) = cut_line(place);
-            self.put_place(group, Kind::Reading { table, at }, lines);
+            self.put_place(group, table, at, lines);
         }
         self.put(Entry::Readings(group));
     }
 
     /// Takes the readings at a place of a table.
-    fn put_place(&mut self, group: &'a str, kind: Kind<'a>, readings: &'a str) {
+    fn put_place(&mut self, group: &'a str, table: &'a str, at: &'a str, readings: &'a str) {
+        let kind = Kind::Reading { table, at };
         for line in readings.lines() {
             if !is_silent(line) {
-                self.put(Entry::Case(Written {
-                    kind,
-                    group,
-                    name: line,
-                    lines: line,
-                }));
+                self.put_case(kind, group, line, line);
             }
         }
     }
@@ -199,10 +196,11 @@ impl<'a> Plan<'a> {
 
 /// Counts a guard or an effect of a row, and complains if it has no case of its own, or several.
 fn check_line(report: &mut Report, row: &str, text: &str, line: &str) {
-    let (word, name) = line.split_once(' ').unwrap_or((line, ""));
+    let (word, name) = cut_word(line);
+    let counts = &mut report.counts;
     match word {
-        "guard" => report.guards = report.guards.saturating_add(1),
-        "effect" => report.effects = report.effects.saturating_add(1),
+        "guard" => counts.guards = counts.guards.saturating_add(1),
+        "effect" => counts.effects = counts.effects.saturating_add(1),
         _ => return report.complain(row, line, "no guard and no effect"),
     }
     match cases_of(text, name) {
@@ -214,13 +212,13 @@ fn check_line(report: &mut Report, row: &str, text: &str, line: &str) {
 
 /// Complains of a row's guards and effects, which are in these lines of its text, and counts them.
 fn check_head(report: &mut Report, row: &str, text: &str, lines: &str) {
-    let before = report.effects;
+    let before = report.counts.effects;
     for line in lines.lines() {
         if !is_silent(line) {
             check_line(report, row, text, line);
         }
     }
-    if report.effects == before {
+    if report.counts.effects == before {
         report.complain(row, "effect", "the row has none");
     }
 }

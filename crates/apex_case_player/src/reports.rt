@@ -1,50 +1,54 @@
 //! The report on the rows and on the examples, line by line.
 ghost use Rattle.std.specs.Prelude.{◌≡◌, ◌-◌, length, drop, IsNone, IsTrue, false};
 
+use crate::details::Detail;
 use crate::faults::CaseFault;
 use crate::plans::{Kind, Written};
 use crate::rows::is_silent;
 use crate::texts::Text;
 use std::alloc::Global;
 
+/// The numbers of what the report is on so far.
+#[derive(Clone, Copy)]
+pub(crate) struct Counts {
+    rows: u64,
+    pub(crate) guards: u64,
+    pub(crate) effects: u64,
+    cases: u64,
+    examples: u64,
+    histories: u64,
+    /// The readings of one table that are as expected.
+    readings: u64,
+}
+
 /// The report so far.
 #[derive(Drop)]
 pub struct Report {
     text: Text,
     /// The last difference.
-    difference: Text,
-    /// The attempt that is made, which a difference names, as `read 3`; at "" the case as it is.
-    attempt: &'static str,
-    number: u64,
+    detail: Detail,
     /// The first fault of the case or the reading at hand.
     fault: Option<CaseFault>,
     is_clean: bool,
-    rows: u64,
-    pub(crate) guards: u64,
-    pub(crate) effects: u64,
-    cases: u64,
-    pub(crate) examples: u64,
-    pub(crate) histories: u64,
-    /// The readings of one table that are as expected.
-    pub(crate) readings: u64,
+    pub(crate) counts: Counts,
 }
 
 impl Report {
     pub fn new(alloc: Global) -> Report {
         Report {
             text: Text::new(alloc),
-            difference: Text::new(alloc),
-            attempt: "",
-            number: 0,
+            detail: Detail::new(alloc),
             fault: None,
             is_clean: true,
-            rows: 0,
-            guards: 0,
-            effects: 0,
-            cases: 0,
-            examples: 0,
-            histories: 0,
-            readings: 0,
+            counts: Counts {
+                rows: 0,
+                guards: 0,
+                effects: 0,
+                cases: 0,
+                examples: 0,
+                histories: 0,
+                readings: 0,
+            },
         }
     }
 
@@ -60,47 +64,37 @@ impl Report {
         self.is_clean
     }
 
-    fn put_name(&mut self, name: &str)
-        ensures { self.new.is_clean ≡ self.old.is_clean }
-    {
-        self.text.put(name);
-        self.text.put(": ");
-    }
-
-    fn put_count(&mut self, count: u64, noun: &str)
-        ensures { self.new.is_clean ≡ self.old.is_clean }
-    {
-        self.text.put_number(count);
-        self.text.put(noun);
-    }
-
     /// Reports the number of cases of a row.
     pub(crate) fn count(&mut self, row: &str, cases: u64)
         ensures { self.new.is_clean ≡ self.old.is_clean }
     {
-        self.rows = self.rows.saturating_add(1);
-        self.cases = self.cases.saturating_add(cases);
-        self.put_name(row);
-        self.put_count(cases, if cases == 1 { " case\n" } else { " cases\n" });
+        self.counts.rows = self.counts.rows.saturating_add(1);
+        self.counts.cases = self.counts.cases.saturating_add(cases);
+        let noun = if cases == 1 { " case\n" } else { " cases\n" };
+        self.text.put_named_count(row, cases, noun);
     }
 
     /// Reports how a case of an example is as it should be.
     pub(crate) fn confirm(&mut self, example: &str, case: &str, how: &str)
         ensures { self.new.is_clean ≡ self.old.is_clean }
     {
-        self.put_name(example);
-        self.put_name(case);
-        self.text.put(how);
-        self.text.put("\n");
+        self.text.put_item(example, case, how);
     }
 
     /// Reports the number of readings of an example's table that are as expected, and begins anew.
     pub fn total_of_readings(&mut self, example: &str)
         ensures { self.new.is_clean ≡ self.old.is_clean }
     {
-        self.put_name(example);
-        self.put_count(self.readings, " readings as expected\n");
-        self.readings = 0;
+        let noun = " readings as expected\n";
+        self.text
+            .put_named_count(example, self.counts.readings, noun);
+        self.counts.readings = 0;
+    }
+
+    /// Counts an example and its cases.
+    pub(crate) fn count_example(&mut self, cases: u64) {
+        self.counts.examples = self.counts.examples.saturating_add(1);
+        self.counts.histories = self.counts.histories.saturating_add(cases);
     }
 
     /// Reports the complaint about a guard, an effect, a case or a reading.
@@ -108,7 +102,7 @@ impl Report {
         ensures { self.new.is_clean ≡ false }
     {
         self.is_clean = false;
-        self.confirm(group, name, what);
+        self.text.put_item(group, name, what);
     }
 
     /// Complains of a case or a reading by its fault, or by the last difference.
@@ -119,11 +113,8 @@ impl Report {
             return self.complain(written.group, written.name, fault.text());
         }
         self.is_clean = false;
-        self.put_name(written.group);
-        self.put_name(written.name);
-        self.text.put(self.difference.as_str());
-        self.text.blame_with(&self.difference);
-        self.text.put("\n");
+        self.detail
+            .put_item(&mut self.text, written.group, written.name);
     }
 
     /// Complains of each line of a text that says something.
@@ -139,18 +130,19 @@ impl Report {
     pub(crate) fn total(&mut self)
         ensures { self.new.is_clean ≡ self.old.is_clean }
     {
-        self.put_count(self.rows, " rows, ");
-        self.put_count(self.guards, " guards, ");
-        self.put_count(self.effects, " effects, ");
-        self.put_count(self.cases, " cases\n");
+        let counts = self.counts;
+        self.text.put_count(counts.rows, " rows, ");
+        self.text.put_count(counts.guards, " guards, ");
+        self.text.put_count(counts.effects, " effects, ");
+        self.text.put_count(counts.cases, " cases\n");
     }
 
     /// Reports the number of examples, and that of their cases.
     pub fn total_of_examples(&mut self)
         ensures { self.new.is_clean ≡ self.old.is_clean }
     {
-        self.put_count(self.examples, " examples, ");
-        self.put_count(self.histories, " histories\n");
+        self.text.put_count(self.counts.examples, " examples, ");
+        self.text.put_count(self.counts.histories, " histories\n");
     }
 
     /// Notes that there is no fault so far.
@@ -160,8 +152,7 @@ impl Report {
 
     /// Begins an attempt of this name and number.
     pub(crate) fn begin(&mut self, attempt: &'static str, number: u64) {
-        self.attempt = attempt;
-        self.number = number;
+        self.detail.set_attempt(attempt, number);
     }
 
     /// The first fault of the case or the reading at hand.
@@ -173,6 +164,24 @@ impl Report {
     pub fn blame(&mut self, fault: CaseFault) {
         if matches!(self.fault, None | Some(CaseFault::Differs)) {
             self.fault = Some(fault);
+        }
+    }
+
+    /// Notes the fault of a text of the case at hand, if it has one.
+    pub(crate) fn blame_with(&mut self, text: &Text) {
+        if let Some(fault) = text.fault() {
+            self.blame(fault);
+        }
+    }
+
+    /// The number that a word of the case at hand writes; blames the word if it is none.
+    pub(crate) fn number_of(&mut self, word: &str) -> u64 {
+        match word.parse::<u64>() {
+            Ok(number) => number,
+            Err(_) => {
+                self.blame(CaseFault::Number);
+                0
+            }
         }
     }
 
@@ -188,20 +197,10 @@ impl Report {
         match written.kind {
             Kind::Row => {}
             Kind::Example(_) => self.confirm(written.group, written.name, how),
-            Kind::Reading { .. } => self.readings = self.readings.saturating_add(1),
+            Kind::Reading { .. } => {
+                self.counts.readings = self.counts.readings.saturating_add(1);
+            }
         }
-    }
-
-    /// Begins a difference: the attempt, and what differs.
-    fn differ(&mut self, what: &str) {
-        self.difference.clear();
-        if !self.attempt.is_empty() {
-            self.difference.put(self.attempt);
-            self.difference.put(" ");
-            self.difference.put_number(self.number);
-            self.difference.put(": ");
-        }
-        self.difference.put(what);
     }
 
     /// Notes that the outcome differs if this does not hold.
@@ -209,8 +208,7 @@ impl Report {
         if self.fault.is_some() || holds {
             return;
         }
-        self.differ("it is not so: ");
-        self.difference.put(what);
+        self.detail.put_unmet(what);
         self.fault = Some(CaseFault::Differs);
     }
 
@@ -221,11 +219,7 @@ impl Report {
         if self.fault.is_some() || wanted == got {
             return;
         }
-        self.differ(what);
-        self.difference.put(": expected ");
-        self.difference.put_number(wanted);
-        self.difference.put(", but got ");
-        self.difference.put_number(got);
+        self.detail.put_numbers(what, wanted, got);
         self.fault = Some(CaseFault::Differs);
     }
 
@@ -237,32 +231,8 @@ impl Report {
         if self.fault.is_some() || expected == got {
             return;
         }
-        self.put_first_difference(expected, got);
+        self.detail.put_first_difference(expected, got);
         self.fault = Some(CaseFault::Differs);
-    }
-
-    /// The first line in which a text differs from what was expected.
-    fn put_first_difference(&mut self, expected: &str, got: &str) {
-        let mut lines = got.lines();
-        let mut number: u64 = 1;
-        for wanted in expected.lines() {
-            let line = lines.next().unwrap_or("no line");
-            if wanted != line {
-                return self.put_line(number, wanted, line);
-            }
-            number = number.saturating_add(1);
-        }
-        self.put_line(number, "no line", lines.next().unwrap_or("no line"));
-    }
-
-    /// The difference in the line of this number.
-    fn put_line(&mut self, number: u64, wanted: &str, got: &str) {
-        self.differ("line ");
-        self.difference.put_number(number);
-        self.difference.put(": expected ");
-        self.difference.put(wanted);
-        self.difference.put(", but got ");
-        self.difference.put(got);
     }
 
     /// Notes that the outcome differs if a history does not end in the expected lines, with these
@@ -271,17 +241,7 @@ impl Report {
         if self.fault.is_some() || ends_in(history.as_bytes(), expected.as_bytes()) {
             return;
         }
-        self.differ("expected\n");
-        self.difference.put(expected);
-        self.difference.put("but got\n");
-        let first = expected.split(' ').next();
-        let mut is_reached = false;
-        for line in history.lines() {
-            is_reached = is_reached || line.split(' ').next() == first;
-            if is_reached {
-                self.difference.put_line(line);
-            }
-        }
+        self.detail.put_end(expected, history);
         self.fault = Some(CaseFault::Differs);
     }
 }

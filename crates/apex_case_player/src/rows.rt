@@ -5,6 +5,11 @@ pub(crate) fn cut_line(text: &str) -> (&str, &str) {
     text.split_once('\n').unwrap_or((text, ""))
 }
 
+/// The first word of a line, and what comes after the space.
+pub(crate) fn cut_word(line: &str) -> (&str, &str) {
+    line.split_once(' ').unwrap_or((line, ""))
+}
+
 /// Whether a line says nothing: it is empty, or begins with `#`.
 pub(crate) fn is_silent(line: &str) -> bool {
     line.is_empty() || line.starts_with('#')
@@ -26,9 +31,10 @@ pub(crate) fn cases_of(row: &str, name: &str) -> u64 {
 /// Whether a guard or an effect of these lines has this text.
 pub(crate) fn has_clause(lines: &str, name: &str) -> bool {
     for line in lines.lines() {
-        match line.split_once(' ') {
-            Some(("guard" | "effect", text)) if text == name => return true,
-            _ => {}
+        if let Some((word, text)) = line.split_once(' ') {
+            if text == name && matches!(word, "guard" | "effect") {
+                return true;
+            }
         }
     }
     false

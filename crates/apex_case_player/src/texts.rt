@@ -44,13 +44,39 @@ impl Text {
         }
     }
 
-    /// Appends a text with the new piece in place of the old one, at the first `most` places.
-    pub(crate) fn put_replaced(&mut self, text: &str, old: &str, new: &str, most: usize) {
-        for (place, piece) in text.split(old).enumerate() {
-            if place > 0 {
-                self.put(if place <= most { new } else { old });
-            }
-            self.put(piece);
+    /// Appends a number, and what it counts.
+    pub(crate) fn put_count(&mut self, count: u64, noun: &str) {
+        self.put_number(count);
+        self.put(noun);
+    }
+
+    /// Appends a number of a group, and what it counts.
+    pub(crate) fn put_named_count(&mut self, group: &str, count: u64, noun: &str) {
+        self.put(group);
+        self.put(": ");
+        self.put_count(count, noun);
+    }
+
+    /// Appends a line that says this of an item of a group.
+    pub(crate) fn put_item(&mut self, group: &str, item: &str, what: &str) {
+        self.put(group);
+        self.put(": ");
+        self.put(item);
+        self.put(": ");
+        self.put_line(what);
+    }
+
+    /// This text with the new piece in place of the old one, at the first `most` places.
+    pub(crate) fn replaced(&self, alloc: Global, old: &str, new: &str, most: usize) -> Text {
+        match self.text.as_str().replacen(alloc, old, new, most) {
+            Ok(text) => Text {
+                text,
+                fault: self.fault,
+            },
+            Err(_) => Text {
+                text: String::new(alloc),
+                fault: self.fault.or(Some(CaseFault::Memory)),
+            },
         }
     }
 
@@ -76,6 +102,11 @@ impl Text {
     /// What was written, whatever its fault.
     pub(crate) fn as_str(&self) -> &str {
         self.text.as_str()
+    }
+
+    /// The fault, if it has one.
+    pub(crate) fn fault(&self) -> Option<CaseFault> {
+        self.fault
     }
 
     /// What was written; its fault if it has one.
