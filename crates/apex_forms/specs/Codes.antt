@@ -1,6 +1,6 @@
--- The words and bytes of single values, and the values of these.
-use Rattle.std.specs.Prelude.{ℕ, ◌+◌, ◌*◌, ◌%◌, ◌/◌, ◌^◌, ◌==◌, Bool, [], ◌∷◌, Option, None, Some, option_map, slice_index, if◌then◌else◌}
-use Rattle.std.specs.Int.{w64, from_le_bytes, to_le_bytes}
+-- The words and bytes of single values.
+use Rattle.std.specs.Prelude.{ℕ, ◌%◌, ◌/◌, Bool, [], ◌∷◌, Option, None, Some, if◌then◌else◌}
+use Rattle.std.specs.Int.{w64, from_le_bytes}
 use Rattle.apex_machine.specs.declared.records.Suspender.TheVariants.{Itself, Other}
 use Rattle.apex_machine.specs.declared.records.Wait.TheVariants as waits
 use Rattle.apex_forms.specs.Terms.{Holding, Message, Mode, Origin, Suspender, Wait, WaitCode}
@@ -11,17 +11,10 @@ use Rattle.apex_types.specs.declared.modes.Mode.TheVariants.{Idle, ColdStart, No
 abbrev pub flag_word : Bool → ℕ
 flag_word flag = if flag then 1 else 0
 
-abbrev pub is_set : ℕ → Bool
-is_set word = word == 1
-
 -- an instant is its ticks, and none is 0
 abbrev pub instant_word : Option ℕ → ℕ
 instant_word None = 0
 instant_word (Some t) = t
-
--- the instant of this word, if there is one
-abbrev pub instant_in : Bool → ℕ → Option ℕ
-instant_in is_there word = if is_there then Some word else None
 
 -- a mode is its number
 abbrev pub mode_word : Mode → ℕ
@@ -29,25 +22,15 @@ mode_word Idle = 0
 mode_word ColdStart = 1
 mode_word Normal = 2
 
-abbrev pub mode_in : ℕ → Mode
-mode_in word = if word == 0 then Idle else if word == 1 then ColdStart else Normal
-
 -- a suspension is 1 by the process itself, 2 by another, and none is 0
 abbrev pub suspender_byte : Option Suspender → ℕ
 suspender_byte None = 0
 suspender_byte (Some Itself) = 1
 suspender_byte (Some Other) = 2
 
-abbrev pub suspender_in : ℕ → Option Suspender
-suspender_in byte = if byte == 0 then None else if byte == 1 then Some Itself else Some Other
-
 -- the word of four bytes, low first, and of four that are 0
 abbrev pub word_of_bytes : ℕ → ℕ → ℕ → ℕ → ℕ
 word_of_bytes a b c d = from_le_bytes w64 (a ∷ b ∷ c ∷ d ∷ 0 ∷ 0 ∷ 0 ∷ 0 ∷ [])
-
--- the byte of a word at a place, the lowest first
-abbrev pub byte_of : ℕ → ℕ → ℕ
-byte_of word place = slice_index (to_le_bytes w64 word) place
 
 -- the word of a message of this length, by its origin: the list, the length, and the place there
 abbrev pub origin_word : ℕ → Origin → ℕ
@@ -59,31 +42,10 @@ abbrev pub message_word : Option Message → ℕ
 message_word None = 0
 message_word (Some message) = origin_word message.length message.origin
 
--- the origin of these bytes
-abbrev pub origin_in : ℕ → ℕ → ℕ → Origin
-origin_in list low high = if list == 1 then Init (low + 256 * high) else Script high low
-
-abbrev pub message_in : ℕ → Option Message
-message_in word =
-    if byte_of word 0 == 0 then None
-    else Some (record {
-      origin = origin_in (byte_of word 0) (byte_of word 2) (byte_of word 3);
-      length = byte_of word 1;
-    })
-
 -- a mutex that is owned is a word of its number, its ceiling and its depth, and none is 0
 abbrev pub holding_word : Option Holding → ℕ
 holding_word None = 0
 holding_word (Some held) = word_of_bytes 1 held.mutex held.ceiling held.depth
-
-abbrev pub holding_in : ℕ → Option Holding
-holding_in word =
-    if byte_of word 0 == 0 then None
-    else Some (record {
-      mutex = byte_of word 1;
-      ceiling = byte_of word 2;
-      depth = byte_of word 3;
-    })
 
 -- the code of a wait of this kind for the object at a place
 abbrev pub wait_code : ℕ → ℕ → ℕ → WaitCode
@@ -102,25 +64,3 @@ code_of (Some (waits.Send b message)) = wait_code 7 b (message_word (Some messag
 code_of (Some (waits.Blackboard b)) = wait_code 8 b 0
 code_of (Some (waits.EventFlag e)) = wait_code 9 e 0
 code_of (Some (waits.Mutex m)) = wait_code 10 m 0
-
--- the wait for room for this message in the buffer
-abbrev pub sending : ℕ → Option Message → Option Wait
-sending b message = option_map (waits.Send b) message
-
--- the wait of a kind
-abbrev pub wait_of : ℕ → ℕ → ℕ → Option Wait
-wait_of kind place word =
-    if kind == 1 then Some (waits.Normal (word % 2 ^ 32))
-    else if kind == 2 then Some waits.Start
-    else if kind == 3 then Some waits.Time
-    else if kind == 4 then Some waits.Period
-    else if kind == 5 then Some (waits.Semaphore place)
-    else if kind == 6 then Some (waits.Receive place)
-    else if kind == 7 then sending place (message_in word)
-    else if kind == 8 then Some (waits.Blackboard place)
-    else if kind == 9 then Some (waits.EventFlag place)
-    else if kind == 10 then Some (waits.Mutex place)
-    else None
-
-abbrev pub wait_from : WaitCode → Option Wait
-wait_from code = wait_of code.kind code.place code.word

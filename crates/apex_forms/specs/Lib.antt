@@ -5,9 +5,4 @@ pub mod Records
 pub mod Objects
 pub mod Parts
 pub mod Stored
-pub mod Restored
-pub mod Copied
 pub mod Forms
-pub mod Reached
-pub mod Formed
-pub mod Laws

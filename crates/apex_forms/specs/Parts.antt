@@ -1,9 +1,5 @@
 -- The words of one part of a situation among all of them.
-use Rattle.std.specs.Prelude.{◌≡◌, ℕ, ◌+◌, ◌*◌, List, ◌++◌, length, take, drop}
-
--- the words of the place among parts of this length, the first of which is at `from`
-abbrev pub part : List ℕ → ℕ → ℕ → ℕ → List ℕ
-part words from place many = take many (drop (from + place * many) words)
+use Rattle.std.specs.Prelude.{◌≡◌, ℕ, ◌+◌, List, ◌++◌, length, take}
 
 -- the part was put at a place, and the words before it are as they were; `end` is the place behind it
 pub record IsPut (part : List ℕ) (at : ℕ) (old : List ℕ) (end : ℕ) (new : List ℕ) : Type 0 where

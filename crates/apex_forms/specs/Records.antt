@@ -1,9 +1,8 @@
--- The words of a process, and the process of these: eleven words each.
-use Rattle.std.specs.Prelude.{◌≡◌, ℕ, ◌<◌, ◌==◌, Bool, List, [], ◌∷◌, drop, filter_map, None, is_some, slice_get, slice_index, ℤ, pos}
+-- The words of a process: eleven words each.
+use Rattle.std.specs.Prelude.{◌≡◌, ℕ, Bool, List, [], ◌∷◌, is_some, slice_get, ℤ, pos}
 use Rattle.std.specs.Int.{w64, from_le_bytes}
-use Rattle.apex_types.specs.declared.limits.TheConstants.{MOST_CORES}
-use Rattle.apex_forms.specs.Codes.{byte_of, code_of, flag_word, holding_in, holding_word, instant_in, instant_word, suspender_byte, suspender_in, wait_of}
-use Rattle.apex_forms.specs.Terms.{Attributes, Holding, Record}
+use Rattle.apex_forms.specs.Codes.{code_of, flag_word, holding_word, instant_word, suspender_byte}
+use Rattle.apex_forms.specs.Terms.{Record}
 
 -- a stamp upwards is its number
 abbrev pub stamp_word : ℤ → ℕ
@@ -35,34 +34,3 @@ record_words created r =
 pub record FitsRecord (r : Record) : Type 0 where
   pub stamp : ℕ
   pub since : r.since ≡ pos stamp
-
--- the mutexes of these words
-abbrev pub owned_in : List ℕ → List Holding
-owned_in words = filter_map holding_in words
-
--- the first byte of the word is the number of a core
-abbrev pub IsCoreWord : ℕ → Type 0
-IsCoreWord word = byte_of word 0 < MOST_CORES
-
--- the process of these words is created
-abbrev pub is_created_in : List ℕ → Bool
-is_created_in words = byte_of (slice_index words 1) 0 == 1
-
--- the record of these words, with these attributes and an empty inbox
-abbrev pub record_from : Attributes → List ℕ → Record
-record_from attributes words =
-    let bytes = slice_index words 0 in let marks = slice_index words 1 in record {
-      attributes = attributes;
-      core = byte_of bytes 0;
-      base = byte_of bytes 1;
-      started = byte_of bytes 2 == 1;
-      suspended = suspender_in (byte_of bytes 3);
-      wait = wait_of (byte_of bytes 4) (byte_of bytes 5) (slice_index words 2);
-      since = pos (slice_index words 3);
-      due = instant_in (byte_of marks 1 == 1) (slice_index words 4);
-      deadline = instant_in (byte_of marks 2 == 1) (slice_index words 5);
-      release = slice_index words 6;
-      owned = owned_in (drop 7 words);
-      step = byte_of bytes 6;
-      inbox = None;
-    }

@@ -3,7 +3,6 @@ pub use Rattle.apex_forms.specs.declared.codes.WaitCode.{WaitCode}
 pub use Rattle.apex_forms.specs.declared.forms.Contest.{Contest}
 pub use Rattle.apex_forms.specs.declared.forms.Moments.{Moments}
 pub use Rattle.apex_machine.specs.declared.holdings.Holding.{Holding}
-pub use Rattle.apex_machine.specs.declared.records.Attributes.{Attributes}
 pub use Rattle.apex_machine.specs.declared.records.Queue.{Queue}
 pub use Rattle.apex_machine.specs.declared.records.Record.{Record}
 pub use Rattle.apex_machine.specs.declared.records.Suspender.{Suspender}
@@ -12,9 +11,4 @@ pub use Rattle.apex_machine.specs.declared.works.OpenWork.{OpenWork}
 pub use Rattle.apex_pace.specs.declared.paces.Pace.{Pace}
 pub use Rattle.apex_types.specs.declared.calls.Message.{Message}
 pub use Rattle.apex_types.specs.declared.calls.Origin.{Origin}
-pub use Rattle.apex_types.specs.declared.entries.Caller.{Caller}
-pub use Rattle.apex_types.specs.declared.entries.Event.{Event}
-pub use Rattle.apex_types.specs.declared.entries.Reply.{Reply}
-pub use Rattle.apex_types.specs.declared.entries.ReturnCode.{ReturnCode}
-pub use Rattle.apex_types.specs.declared.modes.DeadlineType.{DeadlineType}
 pub use Rattle.apex_types.specs.declared.modes.Mode.{Mode}

@@ -1,24 +1,15 @@
 //! The words and bytes of single values.
 ghost use Rattle.std.specs.Prelude.{◌≡◌, ◌<◌};
-ghost use Rattle.apex_forms.specs.Codes.{code_of, flag_word, holding_in, holding_word, instant_in, instant_word, is_set, message_in, message_word, mode_in, mode_word, origin_word, sending, suspender_byte, suspender_in, wait_from};
+ghost use Rattle.apex_forms.specs.Codes.{code_of, flag_word, holding_word, instant_word, message_word, mode_word, origin_word, suspender_byte};
 
 use apex_machine::{Holding, Suspender, Wait};
-use apex_types::{
-    BlackboardId, BufferId, EventId, Message, Mode, MutexId, Origin, ProcessId, SemaphoreId,
-};
+use apex_types::{Message, Mode, Origin};
 
 /// The word of a truth.
 pub(crate) fn flag_word(flag: bool) -> u64
     ensures { result ≡ flag_word flag }
 {
     if flag { 1 } else { 0 }
-}
-
-/// The truth of this word.
-pub(crate) fn is_set(word: u64) -> bool
-    ensures { result ≡ is_set word }
-{
-    word == 1
 }
 
 /// The word of an instant in ticks, and 0 for none.
@@ -29,13 +20,6 @@ pub(crate) fn instant_word(instant: Option<u64>) -> u64
         Some(ticks) => ticks,
         None => 0,
     }
-}
-
-/// The instant of this word, if there is one.
-pub(crate) fn instant_in(is_there: bool, word: u64) -> Option<u64>
-    ensures { result ≡ instant_in is_there word }
-{
-    if is_there { Some(word) } else { None }
 }
 
 /// The word of a mode.
@@ -49,17 +33,6 @@ pub(crate) fn mode_word(mode: Mode) -> u64
     }
 }
 
-/// The mode of this word.
-pub(crate) fn mode_in(word: u64) -> Mode
-    ensures { result ≡ mode_in word }
-{
-    match word {
-        0 => Mode::Idle,
-        1 => Mode::ColdStart,
-        _ => Mode::Normal,
-    }
-}
-
 /// The byte of a suspension.
 pub(crate) fn suspender_byte(suspended: Option<Suspender>) -> u8
     ensures { result ≡ suspender_byte suspended }
@@ -68,17 +41,6 @@ pub(crate) fn suspender_byte(suspended: Option<Suspender>) -> u8
         None => 0,
         Some(Suspender::Itself) => 1,
         Some(Suspender::Other) => 2,
-    }
-}
-
-/// The suspension of this byte.
-pub(crate) fn suspender_in(byte: u8) -> Option<Suspender>
-    ensures { result ≡ suspender_in byte }
-{
-    match byte {
-        0 => None,
-        1 => Some(Suspender::Itself),
-        _ => Some(Suspender::Other),
     }
 }
 
@@ -108,19 +70,6 @@ pub(crate) fn message_word(message: Option<Message>) -> u64
     }
 }
 
-/// The message of this word.
-pub(crate) fn message_in(word: u64) -> Option<Message>
-    ensures { result ≡ message_in word }
-{
-    let [list, length, low, high, _, _, _, _] = word.to_le_bytes();
-    let origin = match list {
-        0 => return None,
-        1 => Origin::Init(u16::from_le_bytes([low, high])),
-        _ => Origin::Script(ProcessId::at(high), low),
-    };
-    Some(Message { origin, length })
-}
-
 /// The word of a mutex that is owned; 0 for none.
 pub(crate) fn holding_word(holding: Option<Holding>) -> u64
     ensures { result ≡ holding_word holding }
@@ -132,21 +81,6 @@ pub(crate) fn holding_word(holding: Option<Holding>) -> u64
         }
         None => 0,
     }
-}
-
-/// The mutex of this word.
-pub(crate) fn holding_in(word: u64) -> Option<Holding>
-    ensures { result ≡ holding_in word }
-{
-    let [is_held, mutex, ceiling, depth, _, _, _, _] = word.to_le_bytes();
-    if is_held == 0 {
-        return None;
-    }
-    Some(Holding {
-        mutex: MutexId::at(mutex),
-        ceiling,
-        depth,
-    })
 }
 
 /// A wait by its kind, the place of its object, and the word of its delay or message.
@@ -195,34 +129,5 @@ impl WaitCode {
             Some(Wait::EventFlag(event_flag)) => wait_for(9, event_flag.place()),
             Some(Wait::Mutex(mutex)) => wait_for(10, mutex.place()),
         }
-    }
-
-    /// The wait of this code.
-    pub(crate) fn wait(self) -> Option<Wait>
-        ensures { result ≡ wait_from self }
-    {
-        match self.kind {
-            1 => Some(Wait::Normal((self.word % (1 << 32)) as u32)),
-            2 => Some(Wait::Start),
-            3 => Some(Wait::Time),
-            4 => Some(Wait::Period),
-            5 => Some(Wait::Semaphore(SemaphoreId::at(self.place))),
-            6 => Some(Wait::Receive(BufferId::at(self.place))),
-            7 => sending(BufferId::at(self.place), message_in(self.word)),
-            8 => Some(Wait::Blackboard(BlackboardId::at(self.place))),
-            9 => Some(Wait::EventFlag(EventId::at(self.place))),
-            10 => Some(Wait::Mutex(MutexId::at(self.place))),
-            _ => None,
-        }
-    }
-}
-
-/// The wait for room for this message in the buffer.
-fn sending(buffer: BufferId, message: Option<Message>) -> Option<Wait>
-    ensures { result ≡ sending buffer message }
-{
-    match message {
-        Some(message) => Some(Wait::Send(buffer, message)),
-        None => None,
     }
 }

@@ -4,20 +4,13 @@
 
 mod canonical;
 mod codes;
-mod copied;
 mod forms;
-mod laws;
 mod objects;
 mod parts;
-mod premises;
 mod records;
-mod restored;
 mod stored;
-mod usual;
 
 pub use canonical::canonical_form;
-pub use copied::restore_known;
-pub use laws::{forms_stay_in_bounds, same_forms_have_the_same_words, words_are_exact};
-pub use premises::{forms_are_ready, forms_reach, parts_are_kept, turns_are_few};
-pub use restored::restore;
-pub use stored::{put_words, word_count};
+pub use objects::{BLACKBOARD_WORDS, BUFFER_WORDS, EVENT_FLAG_WORDS, MUTEX_WORDS, SEMAPHORE_WORDS};
+pub use records::RECORD_WORDS;
+pub use stored::{CORE_WORDS, HEAD_WORDS, put_words, word_count};

@@ -23,10 +23,10 @@ use apex_store::{Object, PlainStore, Store};
 use apex_types::{CoreId, MOST_PROCESSES, ProcessId};
 
 /// The words before those of the cores: the mode, the time, and the number of init steps made.
-pub(crate) const HEAD_WORDS: usize = 3;
+pub const HEAD_WORDS: usize = 3;
 
 /// The words of a core: its open work in three, its turns, and the ticks that it has worked for.
-pub(crate) const CORE_WORDS: usize = 5;
+pub const CORE_WORDS: usize = 5;
 
 /// The number of words of a situation of the table.
 pub fn word_count(table: &Table) -> usize

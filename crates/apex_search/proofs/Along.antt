@@ -17,11 +17,11 @@ use Rattle.apex_pace.specs.Pace.{Paced, paced_opening, paced_run, paced_step}
 use Rattle.apex_search.specs.Answers.{SaysOfSchedules, events_along, event_and_later, schedule_of}
 use Rattle.apex_choices.specs.Counts.{IsSameOnCores, IsSamePaced}
 use Rattle.apex_forms.specs.Forms.{canonical_paced}
-use Rattle.apex_forms.specs.Laws.{FormsHaveWords, FormsReach, WordsAreExact}
+use Rattle.apex_recall.specs.Laws.{FormsHaveWords, FormsReach, WordsAreExact}
 use Rattle.apex_search.specs.Laws.{FormsStandFor, StandsFor, StepsFor}
-use Rattle.apex_forms.specs.Reached.{IsReached}
+use Rattle.apex_recall.specs.Reached.{IsReached}
 use Rattle.apex_search.specs.Worst.{IsFormAfter}
-use Rattle.apex_forms.specs.Formed.{FormsAreReady, IsFormed}
+use Rattle.apex_recall.specs.Formed.{FormsAreReady, IsFormed}
 use Rattle.apex_search.specs.Steps.{Searched, choices_of, search_start, search_step}
 use Rattle.apex_choices.specs.Choices.{event_of}
 use Rattle.apex_search.specs.Terms.{Event, Pace}

@@ -16,7 +16,7 @@ use Rattle.apex_search.specs.Answers.{IsShortestSchedule, LeadsToFact, schedule_
 use Rattle.apex_search.specs.Census.{AreFindings, EndSays, IsCensus, IsFinding, IsOneOf, IsSearchOf, alone, asking, facts_of, makes, without}
 use Rattle.apex_questions.specs.Facts.{is_code, is_fact}
 use Rattle.apex_search.specs.Facts.{Shown, has_fact, has_one, shown_of}
-use Rattle.apex_forms.specs.Restored.{paced_from}
+use Rattle.apex_recall.specs.Restored.{paced_from}
 use Rattle.apex_search.specs.Steps.{Searched, choices_of, step_by}
 use Rattle.apex_choices.specs.Choices.{event_of}
 use Rattle.apex_search.specs.Terms.{Event, Fact, Question, ReturnCode}

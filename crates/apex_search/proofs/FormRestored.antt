@@ -9,9 +9,9 @@ use Rattle.apex_pace.specs.Laws.{IsPace}
 use Rattle.apex_pace.specs.Pace.{Paced}
 use Rattle.apex_choices.specs.Counts.{IsSamePaced, StoredPaced, paced_in}
 use Rattle.apex_forms.specs.Forms.{canonical_paced}
-use Rattle.apex_forms.specs.Laws.{WordsAreExact}
-use Rattle.apex_forms.specs.Restored.{IsOfTable, IsStored, paced_from}
-use Rattle.apex_forms.specs.Formed.{FormsAreReady, IsForm, IsFormed}
+use Rattle.apex_recall.specs.Laws.{WordsAreExact}
+use Rattle.apex_recall.specs.Restored.{IsOfTable, IsStored, paced_from}
+use Rattle.apex_recall.specs.Formed.{FormsAreReady, IsForm, IsFormed}
 use Rattle.apex_choices.specs.Choices.{IsChosen, event_of}
 use Rattle.apex_search.specs.Steps.{IsCopied, IsIn, IsWorkplace, Searched, search_step, step_by}
 use Rattle.apex_machine.specs.Events.{IsWithin}

@@ -16,9 +16,9 @@ use Rattle.apex_alike.proofs.Chains.{situations_then}
 use Rattle.apex_alike.proofs.Turns.{alike_steps}
 use Rattle.apex_forms.specs.Forms.{canonical_paced, kept_turns, kept_worked}
 use Rattle.apex_search.specs.Laws.{FormsStandFor, StandsFor, StepsFor}
-use Rattle.apex_forms.specs.Reached.{IsReached}
+use Rattle.apex_recall.specs.Reached.{IsReached}
 use Rattle.apex_search.specs.Terms.{Event, OpenWork, Pace}
-use Rattle.apex_forms.proofs.GoOn.{fit_next, form_situated}
+use Rattle.apex_recall.proofs.GoOn.{fit_next, form_situated}
 use Rattle.apex_search.proofs.SameFacts.{same_fact}
 use Rattle.apex_search.proofs.Shifted.{same_allowed, same_starting}
 use Rattle.apex_choices.proofs.Short.{allowed_short}

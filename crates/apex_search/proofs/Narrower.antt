@@ -11,7 +11,7 @@ use Rattle.apex_pace.specs.Pace.{Paced, paced_opening, paced_run}
 use Rattle.apex_search.specs.Answers.{LeadsToFact}
 use Rattle.apex_search.specs.Census.{IsSearchOf, makes}
 use Rattle.apex_search.specs.Facts.{has_fact}
-use Rattle.apex_forms.specs.Restored.{paced_from}
+use Rattle.apex_recall.specs.Restored.{paced_from}
 use Rattle.apex_search.specs.Steps.{Searched, choices_of, search_start, search_step, step_by}
 use Rattle.apex_choices.specs.Choices.{event_of}
 use Rattle.apex_search.specs.Terms.{Event, Question}

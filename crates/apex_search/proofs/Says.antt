@@ -8,13 +8,13 @@ use Rattle.apex_pace.specs.Laws.{IsPace}
 use Rattle.apex_pace.specs.Pace.{paced_opening}
 use Rattle.apex_alike.proofs.Canonical.{canonical_situation}
 use Rattle.apex_search.specs.Answers.{SaysOfSchedules}
-use Rattle.apex_forms.specs.Reached.{HasUsualCalls, IsReached}
+use Rattle.apex_recall.specs.Reached.{HasUsualCalls, IsReached}
 use Rattle.apex_search.specs.Steps.{Searched, choices_of, search_start, search_step}
 use Rattle.apex_search.specs.Terms.{Pace}
-use Rattle.apex_forms.proofs.Exact.{words_exact}
+use Rattle.apex_recall.proofs.Exact.{words_exact}
 use Rattle.apex_search.proofs.FormSteps.{forms_stand}
-use Rattle.apex_forms.proofs.FormWords.{forms_have_words}
-use Rattle.apex_forms.proofs.ReachedNext.{forms_reach}
+use Rattle.apex_recall.proofs.FormWords.{forms_have_words}
+use Rattle.apex_recall.proofs.ReachedNext.{forms_reach}
 use Rattle.apex_search.proofs.Schedules.{Stand, says_of_schedules}
 use Rattle.apex_search.proofs.Shifted.{form_event}
 

@@ -14,14 +14,14 @@ use Rattle.apex_search.specs.Answers.{LeadsToFact, SaysOfSchedules, event_and_la
 use Rattle.apex_search.specs.Facts.{has_fact}
 use Rattle.apex_forms.specs.Forms.{canonical_paced}
 use Rattle.apex_choices.specs.Counts.{IsSamePaced}
-use Rattle.apex_forms.specs.Laws.{FormsHaveWords}
+use Rattle.apex_recall.specs.Laws.{FormsHaveWords}
 use Rattle.apex_search.specs.Laws.{StandsFor, StepsFor}
-use Rattle.apex_forms.specs.Restored.{paced_from}
+use Rattle.apex_recall.specs.Restored.{paced_from}
 use Rattle.apex_search.specs.Steps.{Searched, choices_of, search_start, search_step, step_by}
 use Rattle.apex_choices.specs.Choices.{event_of}
-use Rattle.apex_forms.specs.Formed.{form_words}
+use Rattle.apex_recall.specs.Formed.{form_words}
 use Rattle.apex_search.specs.Terms.{Event, Pace}
-use Rattle.apex_forms.proofs.SameForms.{same_canonical_paced}
+use Rattle.apex_recall.proofs.SameForms.{same_canonical_paced}
 use Rattle.apex_choices.proofs.Same.{same_deed, same_event, same_paced_step}
 use Rattle.apex_choices.proofs.Short.{instant_is}
 use Rattle.apex_choices.proofs.Short.{event_allowed}

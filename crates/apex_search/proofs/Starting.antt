@@ -7,9 +7,9 @@ use Rattle.apex_pace.specs.Laws.{IsPace}
 use Rattle.apex_pace.specs.Pace.{Paced, paced_opening}
 use Rattle.apex_choices.specs.Counts.{IsSamePaced}
 use Rattle.apex_forms.specs.Forms.{canonical_paced}
-use Rattle.apex_forms.specs.Laws.{FormsReach}
-use Rattle.apex_forms.specs.Restored.{IsOfTable}
-use Rattle.apex_forms.specs.Formed.{FormIsReady, FormsAreReady, PartsAreKept, form_words}
+use Rattle.apex_recall.specs.Laws.{FormsReach}
+use Rattle.apex_recall.specs.Restored.{IsOfTable}
+use Rattle.apex_recall.specs.Formed.{FormIsReady, FormsAreReady, PartsAreKept, form_words}
 use Rattle.apex_forms.specs.Stored.{FitsWords}
 use Rattle.apex_search.specs.Terms.{Pace}
 use Rattle.apex_choices.proofs.Same.{paced_is}

@@ -21,11 +21,11 @@ use Rattle.apex_pace.specs.Pace.{Paced, is_allowed, paced_step}
 use Rattle.apex_choices.specs.Counts.{IsSameOnCores, IsSamePaced}
 use Rattle.apex_search.specs.Facts.{has_fact, shown, shown_of}
 use Rattle.apex_forms.specs.Forms.{canonical_paced, kept_turns, kept_worked}
-use Rattle.apex_forms.specs.Laws.{FormsReach}
-use Rattle.apex_forms.specs.Reached.{IsReached}
-use Rattle.apex_forms.specs.Restored.{IsOfTable}
+use Rattle.apex_recall.specs.Laws.{FormsReach}
+use Rattle.apex_recall.specs.Reached.{IsReached}
+use Rattle.apex_recall.specs.Restored.{IsOfTable}
 use Rattle.apex_choices.specs.Choices.{AreWordsAfter, event_of}
-use Rattle.apex_forms.specs.Formed.{FormIsReady, FormsAreReady, IsForm, IsFormed, PartsAreKept, form_words}
+use Rattle.apex_recall.specs.Formed.{FormIsReady, FormsAreReady, IsForm, IsFormed, PartsAreKept, form_words}
 use Rattle.apex_search.specs.Steps.{searched, step_by}
 use Rattle.apex_forms.specs.Stored.{FitsWords, words_of}
 use Rattle.apex_search.specs.Terms.{Caller, Event, Notice, OpenWork, Pace, Question, Reply}

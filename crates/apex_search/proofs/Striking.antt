@@ -13,9 +13,9 @@ use Rattle.apex_machine.specs.table.Table.{IsLawful}
 use Rattle.apex_pace.specs.Laws.{IsPace}
 use Rattle.apex_search.specs.Answers.{IsShortestSchedule}
 use Rattle.apex_search.specs.Census.{FoundHits, IsOneOf, alone, asking, makes}
-use Rattle.apex_forms.specs.Laws.{FormsHaveWords, FormsReach, WordsAreExact}
+use Rattle.apex_recall.specs.Laws.{FormsHaveWords, FormsReach, WordsAreExact}
 use Rattle.apex_search.specs.Laws.{FormsStandFor}
-use Rattle.apex_forms.specs.Reached.{IsReached}
+use Rattle.apex_recall.specs.Reached.{IsReached}
 use Rattle.apex_search.specs.Steps.{Searched, search_start}
 use Rattle.apex_search.specs.Terms.{Fact}
 use Rattle.apex_search.proofs.Along.{stand}

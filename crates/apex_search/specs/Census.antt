@@ -9,7 +9,7 @@ use Rattle.apex_explore.specs.declared.answers.Answer.TheVariants.{Found}
 use Rattle.apex_explore.specs.declared.searches.Search.{Search}
 use Rattle.apex_search.specs.Answers.{IsShortestSchedule, NoSchedule, NoScheduleWithin}
 use Rattle.apex_questions.specs.Facts.{is_fact}
-use Rattle.apex_forms.specs.Formed.{IsForm}
+use Rattle.apex_recall.specs.Formed.{IsForm}
 use Rattle.apex_search.specs.Steps.{IsWorkplace, Searched, choices_of, search_start, search_step}
 use Rattle.apex_forms.specs.Stored.{word_count}
 use Rattle.apex_search.specs.Terms.{Fact}

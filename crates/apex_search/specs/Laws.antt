@@ -7,7 +7,7 @@ use Rattle.apex_pace.specs.Laws.{IsPace}
 use Rattle.apex_pace.specs.Pace.{Paced, is_allowed, paced_step}
 use Rattle.apex_search.specs.Facts.{has_fact}
 use Rattle.apex_forms.specs.Forms.{canonical_paced, kept_turns, kept_worked}
-use Rattle.apex_forms.specs.Reached.{HasUsualCalls, IsReached}
+use Rattle.apex_recall.specs.Reached.{HasUsualCalls, IsReached}
 use Rattle.apex_explore.specs.Answers.{Says}
 use Rattle.apex_explore.specs.Systems.{step_within}
 use Rattle.apex_explore.specs.declared.answers.Answer.{Answer}

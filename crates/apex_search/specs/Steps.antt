@@ -7,12 +7,12 @@ use Rattle.apex_machine.specs.table.Table.{Table}
 use Rattle.apex_pace.specs.Pace.{Paced, paced_opening, paced_step}
 use Rattle.apex_choices.specs.Counts.{IsSamePaced, StoredPaced, paced_in}
 use Rattle.apex_search.specs.Facts.{has_fact}
-use Rattle.apex_forms.specs.Restored.{IsOfTable, paced_from}
+use Rattle.apex_recall.specs.Restored.{IsOfTable, paced_from}
 use Rattle.apex_search.specs.Terms.{Event, Pace, Question}
 use Rattle.apex_search.specs.declared.systems.Workplace.{Workplace}
 use Rattle.apex_types.specs.Limits.{latest}
 use Rattle.apex_choices.specs.Choices.{event_of}
-use Rattle.apex_forms.specs.Formed.{form_words}
+use Rattle.apex_recall.specs.Formed.{form_words}
 
 -- a table under a pace, and what is looked for
 pub record Searched : Type 0 where

@@ -12,7 +12,7 @@ use Rattle.apex_search.specs.Census.{IsSearchOf}
 use Rattle.apex_search.specs.Facts.{Shown, shown_of}
 use Rattle.apex_forms.specs.Forms.{canonical_paced}
 use Rattle.apex_search.specs.Laws.{StandsFor}
-use Rattle.apex_forms.specs.Formed.{IsFormed}
+use Rattle.apex_recall.specs.Formed.{IsFormed}
 use Rattle.apex_search.specs.Steps.{Searched}
 use Rattle.apex_search.specs.Terms.{Event}
 use Rattle.apex_questions.specs.declared.Fact.TheVariants.{Response}

@@ -3,15 +3,15 @@ ghost use Rattle.std.specs.Prelude.{◌≡◌, Some, length};
 ghost use Rattle.apex_choices.specs.Choices.{AreWordsAfter, IsChosen};
 ghost use Rattle.apex_choices.specs.Counts.{IsSameOnCores, paced_in};
 ghost use Rattle.apex_explore.specs.Systems.{GoesTo, step_of};
-ghost use Rattle.apex_forms.specs.Formed.{IsForm, IsFormed};
-ghost use Rattle.apex_forms.specs.Laws.{FormsReach};
-ghost use Rattle.apex_forms.specs.Restored.{IsOfTable};
 ghost use Rattle.apex_forms.specs.Stored.{word_count};
 ghost use Rattle.apex_laws.specs.GoesOn.{CanGoOn};
 ghost use Rattle.apex_machine.specs.Events.{IsWithin};
 ghost use Rattle.apex_machine.specs.Situations.{deed};
 ghost use Rattle.apex_pace.specs.Laws.{IsPace};
 ghost use Rattle.apex_pace.specs.Pace.{paced_step};
+ghost use Rattle.apex_recall.specs.Formed.{IsForm, IsFormed};
+ghost use Rattle.apex_recall.specs.Laws.{FormsReach};
+ghost use Rattle.apex_recall.specs.Restored.{IsOfTable};
 ghost use Rattle.apex_search.specs.Facts.{has_fact, has_some, shown};
 ghost use Rattle.apex_search.specs.Steps.{searched, step_by};
 
@@ -20,8 +20,9 @@ use apex_choices::PacedSituation;
 use apex_configs::Table;
 use apex_dispatch::Deed;
 use apex_explore::Taken;
-use apex_forms::{forms_are_ready, parts_are_kept, put_words, turns_are_few};
+use apex_forms::put_words;
 use apex_pace::Pace;
+use apex_recall::{forms_are_ready, parts_are_kept, turns_are_few};
 use apex_types::{Event, Notices};
 
 /// The entry of a deed that was done last shows one of the facts that are asked for.

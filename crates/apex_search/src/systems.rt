@@ -7,11 +7,11 @@ ghost use Rattle.apex_pace.specs.Pace.{paced_opening};
 ghost use Rattle.apex_search.specs.Answers.{SaysOfSchedules, schedule_of};
 ghost use Rattle.apex_search.specs.Census.{asking};
 ghost use Rattle.apex_choices.specs.Counts.{IsSamePaced, paced_in};
-ghost use Rattle.apex_forms.specs.Laws.{FormsReach};
-ghost use Rattle.apex_forms.specs.Restored.{IsStored, paced_from};
+ghost use Rattle.apex_recall.specs.Laws.{FormsReach};
+ghost use Rattle.apex_recall.specs.Restored.{IsStored, paced_from};
 ghost use Rattle.apex_search.specs.Steps.{IsCopied, IsHereInTime, IsIn, IsWorkplace};
 ghost use Rattle.apex_choices.specs.Choices.{event_of};
-ghost use Rattle.apex_forms.specs.Formed.{form_words};
+ghost use Rattle.apex_recall.specs.Formed.{form_words};
 ghost use Rattle.apex_forms.specs.Stored.{word_count};
 ghost use Rattle.apex_search.specs.Worst.{IsFormAfter, responding};
 
@@ -21,13 +21,14 @@ use crate::steps::{make, step};
 use apex_choices::PacedSituation;
 use apex_configs::Table;
 use apex_explore::{Answer, System, Taken, Watch};
-use apex_forms::{
-    canonical_form, forms_are_ready, forms_reach, parts_are_kept, put_words, restore,
-    restore_known, same_forms_have_the_same_words, turns_are_few, word_count, words_are_exact,
-};
+use apex_forms::{canonical_form, put_words, word_count};
 use apex_jobs::Jobs;
 use apex_pace::Pace;
 use apex_questions::{Fact, Facts};
+use apex_recall::{
+    forms_are_ready, forms_reach, parts_are_kept, restore, restore_known,
+    same_forms_have_the_same_words, turns_are_few, words_are_exact,
+};
 use apex_types::{Event, Notices, ProcessId};
 use std::alloc::{AllocError, Global};
 use std::marker::{Model, Sync};
@@ -59,7 +60,7 @@ pub struct Workplace {
 impl Model for TableSystem {
     ghost use Rattle.std.specs.Prelude.{◌≡◌};
     ghost use Rattle.apex_pace.specs.Laws.{IsPace};
-    ghost use Rattle.apex_forms.specs.Laws.{FormsReach};
+    ghost use Rattle.apex_recall.specs.Laws.{FormsReach};
     ghost use Rattle.apex_search.specs.Steps.{Searched, search_start};
 
     ghost Value = { Searched };
@@ -292,7 +293,7 @@ impl TableSystem {
 }
 
 impl System for TableSystem {
-    ghost use Rattle.apex_forms.specs.Formed.{IsForm};
+    ghost use Rattle.apex_recall.specs.Formed.{IsForm};
     ghost use Rattle.apex_search.specs.Steps.{IsIn, IsWorkplace, choices_of, search_start, search_step};
     ghost use Rattle.apex_forms.specs.Stored.{word_count};
 

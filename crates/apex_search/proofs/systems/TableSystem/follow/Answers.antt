@@ -4,7 +4,7 @@ use Rattle.apex_choices.specs.Counts.{paced_in}
 use Rattle.apex_search.specs.Steps.{Searched}
 use Rattle.apex_search.proofs.Along.{IsAlong, along_begins, along_more, along_stops, form_after}
 use Rattle.apex_choices.proofs.Same.{paced_then}
-use Rattle.apex_forms.proofs.SameForms.{same_canonical_paced}
+use Rattle.apex_recall.proofs.SameForms.{same_canonical_paced}
 use Rattle.apex_search.proofs.Stepping.{here_can, here_counts, here_time, made_fit}
 use Rattle.apex_search.proofs.systems.TableSystem.follow.Goals as goal
 

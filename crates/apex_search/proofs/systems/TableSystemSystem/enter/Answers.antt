@@ -1,4 +1,4 @@
-use Rattle.apex_forms.specs.Formed.{IsForm}
+use Rattle.apex_recall.specs.Formed.{IsForm}
 use Rattle.apex_search.specs.Steps.{IsWorkplace}
 use Rattle.apex_search.proofs.FormRestored.{entered, here_formed, words_stored}
 use Rattle.apex_search.proofs.Stepping.{here_parts}

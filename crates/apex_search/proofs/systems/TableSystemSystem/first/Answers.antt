@@ -1,6 +1,6 @@
 use Rattle.std.proofs.Common.{◌≡◌, ◌∙◌, length, ap, sym}
 use Rattle.apex_pace.specs.Pace.{paced_opening}
-use Rattle.apex_forms.specs.Formed.{form_words}
+use Rattle.apex_recall.specs.Formed.{form_words}
 use Rattle.apex_forms.specs.Stored.{word_count}
 use Rattle.apex_search.proofs.Starting.{start_ready}
 use Rattle.apex_search.proofs.systems.TableSystemSystem.first.Goals as goal

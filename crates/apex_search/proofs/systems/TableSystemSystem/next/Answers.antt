@@ -1,7 +1,7 @@
 use Rattle.std.proofs.Common.{◌≡◌, ◌∙◌, Some, None}
 use Rattle.apex_choices.specs.Counts.{IsSamePaced, StoredPaced, paced_in}
-use Rattle.apex_forms.specs.Restored.{paced_from}
-use Rattle.apex_forms.specs.Formed.{IsForm}
+use Rattle.apex_recall.specs.Restored.{paced_from}
+use Rattle.apex_recall.specs.Formed.{IsForm}
 use Rattle.apex_search.specs.Steps.{IsIn, Searched}
 use Rattle.apex_choices.specs.Choices.{event_of}
 use Rattle.apex_search.proofs.FormRestored.{copied_chosen, here_formed, of_here, same_made, step_from, step_refused}

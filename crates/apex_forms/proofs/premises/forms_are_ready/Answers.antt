@@ -1,6 +1,0 @@
-use Rattle.apex_forms.proofs.Ready.{form_ready}
-use Rattle.apex_forms.proofs.premises.forms_are_ready.Goals as goal
-
-pub returns : goal.returns
-returns c table lawful pace is_pace few s reached =
-    form_ready pace few table lawful s reached (c.forms_fit.ensures table lawful pace is_pace few s reached)

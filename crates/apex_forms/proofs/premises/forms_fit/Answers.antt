@@ -1,5 +1,0 @@
-use Rattle.apex_forms.proofs.Storable.{form_fits}
-use Rattle.apex_forms.proofs.premises.forms_fit.Goals as goal
-
-pub returns : goal.returns
-returns c table lawful pace is_pace few = form_fits table lawful pace

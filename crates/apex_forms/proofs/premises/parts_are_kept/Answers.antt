@@ -1,5 +1,0 @@
-use Rattle.apex_forms.proofs.Kept.{parts_kept}
-use Rattle.apex_forms.proofs.premises.parts_are_kept.Goals as goal
-
-pub returns : goal.returns
-returns c = parts_kept

@@ -1,6 +1,0 @@
-use Rattle.std.proofs.Common.{arith}
-use Rattle.std.proofs.lemmas.Grind.{common_steps}
-use Rattle.apex_forms.proofs.restored.restore_counted.Goals as goal
-
-pub returns-clause-objects : goal.returns-clause-objects
-returns-clause-objects c = grind (arith, common_steps)

@@ -1,0 +1,22 @@
+-- Proofs of the situation of words, and of the laws of canonical forms.
+pub mod Copying
+pub mod DeedsFit
+pub mod Exact
+pub mod FormWords
+pub mod GoOn
+pub mod Kept
+pub mod PartsBack
+pub mod Picked
+pub mod Places
+pub mod ReachedNext
+pub mod Ready
+pub mod RecordsBack
+pub mod RecordsFit
+pub mod RecordsOf
+pub mod Restoring
+pub mod SameForms
+pub mod ServicesFit
+pub mod Singles
+pub mod Storable
+pub mod Within
+pub mod WordsBack
