@@ -1,21 +1,11 @@
 -- Lines that are written one after the other.
-use Rattle.std.proofs.Common.{◌≡◌, ℕ, ◌+◌, ◌<◌, ◌≤◌, zero, suc, List, [], ◌∷◌, ◌++◌, Option, flat_map, map, arith, take, drop, length, get_or, ap, sym, subst, ◌∙◌, append-nil, append_assoc, take-append-drop}
+use Rattle.std.proofs.Common.{◌≡◌, ℕ, ◌+◌, ◌<◌, List, [], ◌∷◌, ◌++◌, Option, flat_map, take, drop, length, get_or, ap, sym, subst, ◌∙◌, append-nil, append_assoc, take-append-drop}
 use Rattle.std.proofs.KnownBytes.{Appends-trans}
 use Rattle.std.specs.Io.KnownBytes.{Appends}
 use Rattle.std.proofs.lemmas.List.{take_more}
 use Rattle.std.proofs.lemmas.Grind.{flat_map-append}
-use Rattle.std.specs.List.{AllByRecursion, range_with_len}
 use Rattle.apex_history.specs.Counted.{AppendsBeginning}
 use Rattle.apex_history.proofs.Passing.{beginning_longer}
-use Rattle.apex_machine.specs.table.Table.{Table}
-use Rattle.apex_report.specs.Processes.{process_figures}
-use Rattle.apex_report.specs.Report.{Report}
-use Rattle.apex_report.specs.Terms.{Entry}
-use Rattle.apex_report.specs.Texts.{IsInTable, IsOfTable}
-
--- three texts that are put one behind the other are put as one
-pub three_joined : (line a b c : List ℕ) → line ++ a ++ b ++ c ≡ line ++ (a ++ b ++ c)
-three_joined line a b c = ap (λ (l : List ℕ). l ++ c) (append_assoc line a b) ∙ append_assoc line (a ++ b) c
 
 -- what is written behind a text is behind it
 pub beginning_behind : (a b c : Option (List ℕ)) (text more : List ℕ) → Appends a b text → AppendsBeginning b c more
@@ -43,15 +33,3 @@ module _ {X : Type 0} (line : X → List ℕ) (xs : List X) (i : ℕ) (x : X) (w
       (sym (flat_map-append line (take (i + 1) xs) (drop (i + 1) xs)) ∙ ap (flat_map line) (take-append-drop (i + 1) xs))
       (beginning_longer a c (flat_map line (take (i + 1) xs)) (flat_map line (drop (i + 1) xs))
       (subst (AppendsBeginning a c) (sym lines_more) (beginning_behind a b c (flat_map line (take i xs)) (line x) first second)))
-
--- the processes of a report are those of its table
-each_in_table : (table : Table) (history : List Entry) (a n : ℕ) → a + n ≤ length table.processes
-    → AllByRecursion (IsInTable table) (map (process_figures history) (range_with_len a n))
-each_in_table table history a zero le = tt
-each_in_table table history a (suc n) le =
-    (omega (arith, le), each_in_table table history (a + 1) n (omega (arith, le)))
-
-pub in_table : (table : Table) (r : Report) → IsOfTable table r → AllByRecursion (IsInTable table) r.processes
-in_table table r of =
-    subst (λ (r : Report). AllByRecursion (IsInTable table) r.processes) (sym of.1)
-    (each_in_table table of.0 0 (length table.processes) (omega arith))

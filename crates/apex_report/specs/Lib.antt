@@ -16,6 +16,7 @@ pub mod Steps
 pub mod ObjectSteps
 pub mod Concerned
 pub mod ReportSteps
+pub mod Members
+pub mod Rows
 pub mod Texts
 pub mod Json
-pub mod Members

@@ -12,6 +12,7 @@ pub use Rattle.apex_calls.specs.declared.catalogue.Service.{Service}
 pub use Rattle.apex_report.specs.declared.cores.CoreFigures.{CoreFigures}
 pub use Rattle.apex_report.specs.declared.job_figures.JobFigures.{JobFigures}
 pub use Rattle.apex_report.specs.declared.jobs.Job.{Job}
+pub use Rattle.apex_report.specs.declared.members.Form.{Form}
 pub use Rattle.apex_report.specs.declared.objects.Level.{Level}
 pub use Rattle.apex_report.specs.declared.objects.ObjectFigures.{ObjectFigures}
 pub use Rattle.apex_report.specs.declared.ownerships.Owner.{Owner}

@@ -1,50 +1,21 @@
 //! The report as JSON, written to a writer.
-ghost use Rattle.std.specs.Prelude.{◌≡◌, ◌≤◌, ◌++◌, List, codes, decimal, flat_map, length, IfErr, OnOk, OnErr};
+ghost use Rattle.std.specs.Prelude.{◌≡◌, ◌++◌, List, codes, decimal, flat_map, IfErr, OnOk, OnErr};
 ghost use Rattle.std.specs.Io.KnownBytes.{Appends};
 ghost use Rattle.apex_types.specs.declared.entries.Entry.{Entry};
 ghost use Rattle.apex_history.specs.Counted.{inner_of, failures_of, CountsFailure, AppendsBeginning, IsOfWrite};
-ghost use Rattle.apex_report.specs.Json.{array_text, arrays_text, behind_text, elements_text, json_of, report_json};
+ghost use Rattle.apex_report.specs.Json.{array_text, arrays_text, elements_text, json_of, report_json};
+ghost use Rattle.apex_report.specs.Rows.{behind_text};
 ghost use Rattle.apex_report.specs.Texts.{IsReportOf};
-ghost use Rattle.apex_report.specs.declared.json_lines.TheConstants.{FRONT};
+ghost use Rattle.apex_report.specs.declared.members.Form.TheVariants.{Json};
 
-use crate::json_lines::Figures;
 use crate::lines::{Line, put, put_number};
+use crate::members::Form;
+use crate::printing::{print_rows, row_line};
 use crate::reports::Report;
+use crate::rows::Figures;
 use apex_configs::Table;
 use apex_history::{Counted, Sink};
 use std::io::{Result, Write};
-
-/// The line of an object, behind a front.
-fn json_line<F: Figures>(table: &Table, figures: &F, front: &str) -> Line
-    requires { length front.now ≤ FRONT }
-    ensures { result.items ≡ front.now ++ F.json table.now figures.now }
-{
-    let mut line = Line::new();
-    put(&mut line, front);
-    figures.put_json(&mut line, table);
-    line
-}
-
-/// Writes the objects of figures behind others.
-fn print_others<W: Sink, F: Figures>(
-    table: &Table,
-    others: &[F],
-    writer: &mut Counted<W>,
-) -> Result<()>
-    ensures ok { OnOk result
-        (Appends (W.contents (inner_of writer.old)) (W.contents (inner_of writer.new))
-        (flat_map (behind_text (F.json table.now)) others.now)) }
-    ensures err { OnErr result
-        (AppendsBeginning (W.contents (inner_of writer.old)) (W.contents (inner_of writer.new))
-        (flat_map (behind_text (F.json table.now)) others.now)) }
-    ensures counted { CountsFailure result (failures_of writer.old) (failures_of writer.new) }
-    ensures failed { IfErr result (IsOfWrite W.accepts (inner_of writer.new)) }
-{
-    for figures in others {
-        writer.write_all(json_line(table, figures, ",\n").as_slice())?;
-    }
-    Ok(())
-}
 
 /// Writes the objects of figures, of which there is a first.
 fn print_from<W: Sink, F: Figures>(
@@ -55,17 +26,17 @@ fn print_from<W: Sink, F: Figures>(
 ) -> Result<()>
     ensures ok { OnOk result
         (Appends (W.contents (inner_of writer.old)) (W.contents (inner_of writer.new))
-        ((codes "\n" ++ F.json table.now first.now)
-        ++ flat_map (behind_text (F.json table.now)) others.now)) }
+        ((codes "\n" ++ F.text Json table.now first.now)
+        ++ flat_map (behind_text Json (F.text Json table.now)) others.now)) }
     ensures err { OnErr result
         (AppendsBeginning (W.contents (inner_of writer.old)) (W.contents (inner_of writer.new))
-        ((codes "\n" ++ F.json table.now first.now)
-        ++ flat_map (behind_text (F.json table.now)) others.now)) }
+        ((codes "\n" ++ F.text Json table.now first.now)
+        ++ flat_map (behind_text Json (F.text Json table.now)) others.now)) }
     ensures counted { CountsFailure result (failures_of writer.old) (failures_of writer.new) }
     ensures failed { IfErr result (IsOfWrite W.accepts (inner_of writer.new)) }
 {
-    writer.write_all(json_line(table, first, "\n").as_slice())?;
-    print_others(table, others, writer)
+    writer.write_all(row_line(table, first, Form::Json, "\n").as_slice())?;
+    print_rows(table, others, Form::Json, writer)
 }
 
 /// Writes the objects of figures, each on a line of its own.
@@ -76,10 +47,10 @@ fn print_elements<W: Sink, F: Figures>(
 ) -> Result<()>
     ensures ok { OnOk result
         (Appends (W.contents (inner_of writer.old)) (W.contents (inner_of writer.new))
-        (elements_text (F.json table.now) list.now)) }
+        (elements_text (F.text Json table.now) list.now)) }
     ensures err { OnErr result
         (AppendsBeginning (W.contents (inner_of writer.old)) (W.contents (inner_of writer.new))
-        (elements_text (F.json table.now) list.now)) }
+        (elements_text (F.text Json table.now) list.now)) }
     ensures counted { CountsFailure result (failures_of writer.old) (failures_of writer.new) }
     ensures failed { IfErr result (IsOfWrite W.accepts (inner_of writer.new)) }
 {
@@ -112,10 +83,10 @@ fn print_array<W: Sink, F: Figures>(
 ) -> Result<()>
     ensures ok { OnOk result
         (Appends (W.contents (inner_of writer.old)) (W.contents (inner_of writer.new))
-        (array_text front.now (F.json table.now) list.now)) }
+        (array_text front.now (F.text Json table.now) list.now)) }
     ensures err { OnErr result
         (AppendsBeginning (W.contents (inner_of writer.old)) (W.contents (inner_of writer.new))
-        (array_text front.now (F.json table.now) list.now)) }
+        (array_text front.now (F.text Json table.now) list.now)) }
     ensures counted { CountsFailure result (failures_of writer.old) (failures_of writer.new) }
     ensures failed { IfErr result (IsOfWrite W.accepts (inner_of writer.new)) }
 {

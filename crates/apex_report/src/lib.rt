@@ -7,12 +7,10 @@
 mod cores;
 mod job_figures;
 mod jobs;
-mod json_lines;
 mod json_printing;
 mod lines;
 mod members;
-mod object_json;
-mod object_lines;
+mod object_rows;
 mod objects;
 mod ownerships;
 mod printing;
@@ -20,6 +18,7 @@ mod processes;
 mod queues;
 mod refusals;
 mod reports;
+mod rows;
 mod services;
 mod waits;
 

@@ -1,67 +1,103 @@
-//! The members of JSON objects, added to a line.
+//! The members of a report's rows, added to a line in a form.
 ghost use Rattle.std.specs.Prelude.{◌≡◌, ◌+◌, ◌≤◌, ◌++◌, flat_map, length, sum_by};
 ghost use Rattle.arrayvec.specs.ArrayVec.{array_vec_len};
 ghost use Rattle.apex_types.specs.declared.limits.TheConstants.{MOST_NAME};
 ghost use Rattle.apex_report.specs.declared.lines.TheConstants.{LINE_ROOM};
 ghost use Rattle.apex_report.specs.declared.members.TheConstants.{MOST_STRING};
-ghost use Rattle.apex_report.specs.Json.{string_text, value_text};
-ghost use Rattle.apex_report.specs.Members.{member_text, room_of};
+ghost use Rattle.apex_report.specs.Members.{in_form, key_in, name_in, room_of, text_of, value_in};
 
-use crate::lines::{Line, put, put_long_number};
+use crate::lines::{Line, put, put_bytes, put_long_number};
 use apex_json::{MOST_ESCAPE, add_json};
 use apex_types::MOST_NAME;
 
-/// A member of an object: its key, and a number, or none.
+/// The form of a report.
+#[derive(Clone, Copy)]
+pub(crate) enum Form {
+    /// A line for each row.
+    Line,
+    /// A JSON object for each row.
+    Json,
+}
+
+impl Form {
+    /// The text that belongs to the form.
+    pub(crate) fn pick(self, line: &'static str, json: &'static str) -> &'static str
+        ensures text { result.now ≡ in_form self line.now json.now }
+        ensures short { length result.now ≤ length line.now + length json.now }
+    {
+        match self {
+            Form::Line => line,
+            Form::Json => json,
+        }
+    }
+}
+
+/// A member of a row: its key, and a number, or none.
 #[derive(Clone, Copy)]
 pub(crate) struct Member(pub &'static str, pub Option<u64>);
 
 /// The most bytes of a name as a string.
 pub(crate) const MOST_STRING: usize = MOST_ESCAPE * MOST_NAME + 2;
 
-/// Adds a name as a string.
+/// Adds a name, which is a string in JSON.
 #[tactic(auto, using(std::proofs::Common::append_assoc))]
-pub(crate) fn put_string(line: &mut Line, name: &[u8])
+pub(crate) fn put_name(line: &mut Line, form: Form, name: &[u8])
     requires few { length name.now ≤ MOST_NAME }
     requires room { array_vec_len line.old + MOST_STRING ≤ LINE_ROOM }
-    ensures text { line.new.items ≡ line.old.items ++ string_text name.now }
+    ensures text { line.new.items ≡ line.old.items ++ name_in form name.now }
     ensures short { array_vec_len line.new ≤ array_vec_len line.old + MOST_STRING }
 {
-    put(line, "\"");
-    add_json(line, name);
-    put(line, "\"");
+    match form {
+        Form::Line => put_bytes(line, name),
+        Form::Json => {
+            put(line, "\"");
+            add_json(line, name);
+            put(line, "\"");
+        }
+    }
 }
 
-/// Adds a number, or `null`.
-fn put_value(line: &mut Line, value: Option<u64>)
+/// Adds a key behind others.
+#[tactic(auto, using(std::proofs::Common::append_assoc))]
+pub(crate) fn put_key(line: &mut Line, form: Form, key: &str)
+    requires { array_vec_len line.old + length key.now + 6 ≤ LINE_ROOM }
+    ensures text { line.new.items ≡ line.old.items ++ key_in form key.now }
+    ensures short { array_vec_len line.new ≤ array_vec_len line.old + length key.now + 6 }
+{
+    put(line, form.pick(" ", ",\""));
+    put(line, key);
+    put(line, form.pick("=", "\":"));
+}
+
+/// Adds a number, or the sign for none.
+fn put_value(line: &mut Line, form: Form, value: Option<u64>)
     requires { array_vec_len line.old + 20 ≤ LINE_ROOM }
-    ensures text { line.new.items ≡ line.old.items ++ value_text value }
+    ensures text { line.new.items ≡ line.old.items ++ value_in form value }
     ensures short { array_vec_len line.new ≤ array_vec_len line.old + 20 }
 {
     match value {
         Some(number) => put_long_number(line, number),
-        None => put(line, "null"),
+        None => put(line, form.pick("-", "null")),
     }
 }
 
 #[tactic(auto, using(std::proofs::Common::append_assoc))]
-fn put_member(line: &mut Line, member: &Member)
+pub(crate) fn put_member(line: &mut Line, form: Form, member: &Member)
     requires { array_vec_len line.old + room_of member.now ≤ LINE_ROOM }
-    ensures text { line.new.items ≡ line.old.items ++ member_text member.now }
+    ensures text { line.new.items ≡ line.old.items ++ text_of form member.now }
     ensures short { array_vec_len line.new ≤ array_vec_len line.old + room_of member.now }
 {
-    put(line, ",\"");
-    put(line, member.0);
-    put(line, "\":");
-    put_value(line, member.1);
+    put_key(line, form, member.0);
+    put_value(line, form, member.1);
 }
 
 /// Adds members behind others.
-pub(crate) fn put_members(line: &mut Line, members: &[Member])
+pub(crate) fn put_members(line: &mut Line, form: Form, members: &[Member])
     requires { array_vec_len line.old + sum_by room_of members.now ≤ LINE_ROOM }
-    ensures text { line.new.items ≡ line.old.items ++ flat_map member_text members.now }
+    ensures text { line.new.items ≡ line.old.items ++ flat_map (text_of form) members.now }
     ensures short { array_vec_len line.new ≤ array_vec_len line.old + sum_by room_of members.now }
 {
     for member in members {
-        put_member(line, member);
+        put_member(line, form, member);
     }
 }

@@ -1,95 +1,63 @@
 //! The lines of a report, written to a writer.
-ghost use Rattle.std.specs.Prelude.{◌≡◌, ◌<◌, List, flat_map, length, IfErr, OnOk, OnErr};
-ghost use Rattle.std.specs.List.{AllByRecursion};
+ghost use Rattle.std.specs.Prelude.{◌≡◌, ◌≤◌, ◌++◌, List, flat_map, length, IfErr, OnOk, OnErr};
 ghost use Rattle.std.specs.Io.KnownBytes.{Appends};
 ghost use Rattle.apex_types.specs.declared.entries.Entry.{Entry};
 ghost use Rattle.apex_history.specs.Counted.{inner_of, failures_of, CountsFailure, AppendsBeginning, IsOfWrite};
-ghost use Rattle.apex_report.specs.Texts.{core_line, lines_of, object_line, process_line, refused_line, report_text, IsInTable, IsOfTable, IsReportOf};
+ghost use Rattle.apex_machine.specs.text.Status.{history_line};
+ghost use Rattle.apex_report.specs.Rows.{behind_text};
+ghost use Rattle.apex_report.specs.Texts.{lines_of, report_text, IsOfTable, IsReportOf};
+ghost use Rattle.apex_report.specs.declared.rows.TheConstants.{FRONT};
 
-use crate::cores::CoreFigures;
-use crate::lines::{core_line, history_line, process_line, refused_line};
-use crate::object_lines::object_line;
-use crate::objects::ObjectFigures;
-use crate::processes::ProcessFigures;
+use crate::lines::{Line, put, put_number};
+use crate::members::Form;
 use crate::reports::Report;
-use crate::services::ServiceFigures;
+use crate::rows::Figures;
 use apex_configs::Table;
 use apex_history::{Counted, Sink};
 use std::io::{Result, Write};
 
-/// Writes the line of each core.
-fn print_cores<W: Sink>(cores: &[CoreFigures], writer: &mut Counted<W>) -> Result<()>
-    ensures ok { OnOk result
-        (Appends (W.contents (inner_of writer.old)) (W.contents (inner_of writer.new))
-        (flat_map core_line cores.now)) }
-    ensures err { OnErr result
-        (AppendsBeginning (W.contents (inner_of writer.old)) (W.contents (inner_of writer.new))
-        (flat_map core_line cores.now)) }
-    ensures counted { CountsFailure result (failures_of writer.old) (failures_of writer.new) }
-    ensures failed { IfErr result (IsOfWrite W.accepts (inner_of writer.new)) }
+/// The number of entries, which comes first.
+#[tactic(auto, using(std::proofs::Common::append_assoc))]
+fn history_line(entries: u32) -> Line
+    ensures { result.items ≡ history_line entries }
 {
-    for figures in cores {
-        writer.write_all(core_line(figures).as_slice())?;
-    }
-    Ok(())
+    let mut line = Line::new();
+    put(&mut line, "history ");
+    put_number(&mut line, entries);
+    put(&mut line, "\n");
+    line
 }
 
-/// Writes the line of each process.
-fn print_processes<W: Sink>(
-    table: &Table,
-    processes: &[ProcessFigures],
-    writer: &mut Counted<W>,
-) -> Result<()>
-    requires { AllByRecursion (IsInTable table.now) processes.now }
-    ensures ok { OnOk result
-        (Appends (W.contents (inner_of writer.old)) (W.contents (inner_of writer.new))
-        (flat_map (process_line table.now) processes.now)) }
-    ensures err { OnErr result
-        (AppendsBeginning (W.contents (inner_of writer.old)) (W.contents (inner_of writer.new))
-        (flat_map (process_line table.now) processes.now)) }
-    ensures counted { CountsFailure result (failures_of writer.old) (failures_of writer.new) }
-    ensures failed { IfErr result (IsOfWrite W.accepts (inner_of writer.new)) }
+/// The row of figures, behind a front.
+pub(crate) fn row_line<F: Figures>(table: &Table, figures: &F, form: Form, front: &str) -> Line
+    requires { length front.now ≤ FRONT }
+    ensures { result.items ≡ front.now ++ F.text form table.now figures.now }
 {
-    for figures in processes {
-        writer.write_all(process_line(table, figures).as_slice())?;
-    }
-    Ok(())
+    let mut line = Line::new();
+    put(&mut line, front);
+    figures.put_row(&mut line, form, table);
+    line
 }
 
-/// Writes the line of each object.
-fn print_objects<W: Sink>(
+/// Writes the rows of figures behind others.
+pub(crate) fn print_rows<W: Sink, F: Figures>(
     table: &Table,
-    objects: &[ObjectFigures],
+    rows: &[F],
+    form: Form,
     writer: &mut Counted<W>,
 ) -> Result<()>
     ensures ok { OnOk result
         (Appends (W.contents (inner_of writer.old)) (W.contents (inner_of writer.new))
-        (flat_map (object_line table.now) objects.now)) }
+        (flat_map (behind_text form (F.text form table.now)) rows.now)) }
     ensures err { OnErr result
         (AppendsBeginning (W.contents (inner_of writer.old)) (W.contents (inner_of writer.new))
-        (flat_map (object_line table.now) objects.now)) }
+        (flat_map (behind_text form (F.text form table.now)) rows.now)) }
     ensures counted { CountsFailure result (failures_of writer.old) (failures_of writer.new) }
     ensures failed { IfErr result (IsOfWrite W.accepts (inner_of writer.new)) }
 {
-    for figures in objects {
-        writer.write_all(object_line(table, figures).as_slice())?;
-    }
-    Ok(())
-}
-
-/// Writes the line of each service that refused a call.
-fn print_services<W: Sink>(services: &[ServiceFigures], writer: &mut Counted<W>) -> Result<()>
-    ensures ok { OnOk result
-        (Appends (W.contents (inner_of writer.old)) (W.contents (inner_of writer.new))
-        (flat_map refused_line services.now)) }
-    ensures err { OnErr result
-        (AppendsBeginning (W.contents (inner_of writer.old)) (W.contents (inner_of writer.new))
-        (flat_map refused_line services.now)) }
-    ensures counted { CountsFailure result (failures_of writer.old) (failures_of writer.new) }
-    ensures failed { IfErr result (IsOfWrite W.accepts (inner_of writer.new)) }
-{
-    for figures in services {
-        writer.write_all(refused_line(figures).as_slice())?;
+    let front = form.pick("", ",\n");
+    for figures in rows {
+        writer.write_all(row_line(table, figures, form, front).as_slice())?;
     }
     Ok(())
 }
@@ -97,7 +65,6 @@ fn print_services<W: Sink>(services: &[ServiceFigures], writer: &mut Counted<W>)
 /// Writes the lines of the report: the number of entries, each core, each process, each object, and each
 /// service that refused a call.
 fn print_lines<W: Sink>(table: &Table, report: &Report, writer: &mut Counted<W>) -> Result<()>
-    requires { IsOfTable table.now report.now }
     ensures ok { OnOk result
         (Appends (W.contents (inner_of writer.old)) (W.contents (inner_of writer.new))
         (lines_of table.now report.now)) }
@@ -108,10 +75,10 @@ fn print_lines<W: Sink>(table: &Table, report: &Report, writer: &mut Counted<W>)
     ensures failed { IfErr result (IsOfWrite W.accepts (inner_of writer.new)) }
 {
     writer.write_all(history_line(report.entries()).as_slice())?;
-    print_cores(report.cores(), writer)?;
-    print_processes(table, report.processes(), writer)?;
-    print_objects(table, report.objects(), writer)?;
-    print_services(report.services(), writer)
+    print_rows(table, report.cores(), Form::Line, writer)?;
+    print_rows(table, report.processes(), Form::Line, writer)?;
+    print_rows(table, report.objects(), Form::Line, writer)?;
+    print_rows(table, report.services(), Form::Line, writer)
 }
 
 /// Writes the report of a history of the table's partition: the lines of the number of entries, of
