@@ -1,15 +1,15 @@
 -- The request of the words of the command line; the first word is the program's name.
-use Rattle.std.specs.Prelude.{Bool, List, Option, Some, None, codes, if◌then◌else◌}
+use Rattle.std.specs.Prelude.{Bool, List, [], ◌∷◌, Option, Some, None, codes, if◌then◌else◌}
 use Rattle.std.specs.Prelude.{option_and_then, option_map}
 use Rattle.std.specs.Str.{bytes_eq}
-use Rattle.clap.specs.Words.{App, Row, Text, first_of, new_app, with_rule, with_subcommand}
-use Rattle.apex_console.specs.Words.{flag_rule, program_alone, request_by, required_rule, says_given}
+use Rattle.clap.specs.Words.{App, Row, Text, first_of, new_app, with_subcommand}
+use Rattle.apex_console.specs.Words.{flag_rule, program_alone, request_by, required_rule, says_given, with_rules}
 use Rattle.apex_console.specs.declared.Report.{Report}
 use Rattle.apex_console.specs.declared.Report.TheVariants.{History, Status}
 
 -- the command of this name, `--schedule S`
 abbrev pub report_command : Text → App
-report_command name = with_rule (new_app name) (required_rule (codes "schedule"))
+report_command name = with_rules (new_app name) (required_rule (codes "schedule") ∷ [])
 
 -- `check`
 abbrev pub check_command : App
@@ -18,10 +18,8 @@ check_command = new_app (codes "check")
 -- `run --turns N --ticks K`, with or without `--front`
 abbrev pub run_command : App
 run_command =
-    with_rule
-    (with_rule (with_rule (new_app (codes "run")) (required_rule (codes "turns")))
-    (required_rule (codes "ticks")))
-    (flag_rule (codes "front"))
+    with_rules (new_app (codes "run"))
+    (required_rule (codes "turns") ∷ required_rule (codes "ticks") ∷ flag_rule (codes "front") ∷ [])
 
 -- `apex`
 abbrev pub apex_alone : App

@@ -7,7 +7,7 @@ ghost use Rattle.apex_cli.specs.Requests.{request_said};
 ghost use Rattle.apex_cli.specs.Words.{apex, report_command, report_in, request_in, request_of, run_command, run_in};
 
 use apex_console::{
-    CliFault, Report, bare_line, flag, has_flag, matches_of, required, with_command,
+    Argument, CliFault, Report, bare_line, has_flag, matches_of, with_arguments, with_command,
 };
 use clap::{ArgMatches, Command};
 use std::alloc::{AllocError, Global};
@@ -33,7 +33,11 @@ fn report_command<'a>(alloc: Global, name: &'static str) -> Result<Command<'a>, 
     ensures app { IfOk result (λ c. app_of c ≡ report_command name.now) }
     ensures local { IfOk result (λ c. (fields_of c).has_globals ≡ false) }
 {
-    Command::new(alloc, name).arg(required(alloc, "schedule"))
+    with_arguments(
+        alloc,
+        Command::new(alloc, name),
+        &[Argument::Required("schedule")],
+    )
 }
 
 /// The command `run`.
@@ -41,9 +45,15 @@ fn run_command<'a>(alloc: Global) -> Result<Command<'a>, AllocError>
     ensures app { IfOk result (λ c. app_of c ≡ run_command) }
     ensures local { IfOk result (λ c. (fields_of c).has_globals ≡ false) }
 {
-    let with_turns = Command::new(alloc, "run").arg(required(alloc, "turns"))?;
-    let with_ticks = with_turns.arg(required(alloc, "ticks"))?;
-    with_ticks.arg(flag(alloc, "front"))
+    with_arguments(
+        alloc,
+        Command::new(alloc, "run"),
+        &[
+            Argument::Required("turns"),
+            Argument::Required("ticks"),
+            Argument::Flag("front"),
+        ],
+    )
 }
 
 /// The program's command line, with all its commands.

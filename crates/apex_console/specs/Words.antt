@@ -1,9 +1,11 @@
 -- The words of a command line; the first word is the program's name.
-use Rattle.std.specs.Prelude.{◌≡◌, true, false, Bool, List, [], Option, Some, None, codes, if◌then◌else◌, option_and_then}
+use Rattle.std.specs.Prelude.{◌≡◌, true, false, Bool, List, [], ◌∷◌, Option, Some, None, codes, if◌then◌else◌, option_and_then}
 use Rattle.std.specs.Str.{bytes_eq}
 use Rattle.clap.specs.declared.builder.ArgAction.TheVariants.{Set, SetTrue}
 use Rattle.clap.specs.Walk.{is_empty}
-use Rattle.clap.specs.Words.{App, Kinds, Row, Rule, Text, fault_of, new_app, new_rule, subcommand_of}
+use Rattle.clap.specs.Words.{App, Kinds, Row, Rule, Text, fault_of, new_app, new_rule, subcommand_of, with_rule}
+use Rattle.apex_console.specs.declared.words.Argument.{Argument}
+use Rattle.apex_console.specs.declared.words.Argument.TheVariants.{Optional, Required, Flag}
 
 -- an option with a value, which may be given
 abbrev pub option_rule : Text → Rule
@@ -16,6 +18,17 @@ required_rule name = record (option_rule name) { required = true }
 -- an option without a value, which may be given
 abbrev pub flag_rule : Text → Rule
 flag_rule name = record (new_rule name) { long = Some name; action = Some SetTrue }
+
+-- the rule of an argument
+abbrev pub rule_for : Argument → Rule
+rule_for (Optional name) = option_rule name.now
+rule_for (Required name) = required_rule name.now
+rule_for (Flag name) = flag_rule name.now
+
+-- the command with these rules, one behind the other
+unfoldable pub with_rules : App → List Rule → App
+with_rules app [] = app
+with_rules app (rule ∷ rules) = with_rules (with_rule app rule) rules
 
 -- the program of this name, which wants a command
 abbrev pub program_alone : Text → App

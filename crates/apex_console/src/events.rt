@@ -5,8 +5,8 @@ ghost use Rattle.apex_schedules.specs.Schedule.{are_cores_below, events_of_item,
 ghost use Rattle.apex_console.specs.Schedule.{HasRoomFor, after_events};
 
 use apex_dispatch::Kernel;
-use apex_process::QueueStore;
 use apex_schedules::Item;
+use apex_store::Store;
 use apex_types::{Event, Full};
 
 /// The event of an item, and the number of times that it comes.
@@ -22,7 +22,7 @@ pub fn repeated(item: &Item) -> (Event, u32)
 }
 
 /// Runs the event `times` times, up to the first for which the history has no room.
-fn run_repeated(kernel: &mut Kernel<QueueStore>, event: &Event, times: u32) -> Result<(), Full>
+fn run_repeated<S: Store>(kernel: &mut Kernel<S>, event: &Event, times: u32) -> Result<(), Full>
     requires { IsWithin kernel.old.table.cores event.now }
     ensures done { kernel.new
         ≡ after_events kernel.old (replicate times event.now) kernel.new.store }
@@ -38,7 +38,7 @@ fn run_repeated(kernel: &mut Kernel<QueueStore>, event: &Event, times: u32) -> R
 
 /// Runs the events of the items, up to the first for which the history has no room. Takes no
 /// memory: there is no list of them.
-pub fn run_items(kernel: &mut Kernel<QueueStore>, items: &[Item]) -> Result<(), Full>
+pub fn run_items<S: Store>(kernel: &mut Kernel<S>, items: &[Item]) -> Result<(), Full>
     requires { are_cores_below kernel.old.table.cores items.now ≡ true }
     ensures done { kernel.new
         ≡ after_events kernel.old (events_of_items items.now) kernel.new.store }

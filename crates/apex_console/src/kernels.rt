@@ -13,6 +13,7 @@ use apex_configs::Table;
 use apex_dispatch::Kernel;
 use apex_process::QueueStore;
 use apex_schedules::{Item, are_cores_below};
+use apex_store::Store;
 use apex_table::read_table;
 use std::alloc::{AllocError, Global};
 
@@ -61,7 +62,7 @@ pub fn kernel_for(
 
 /// Makes the events of the items on a kernel before any event. `HistoryFull` if there are more of
 /// them than the history has room for.
-pub fn ran(kernel: &mut Kernel<QueueStore>, items: &[Item]) -> Option<CliFault>
+pub fn ran<S: Store>(kernel: &mut Kernel<S>, items: &[Item]) -> Option<CliFault>
     requires opened { kernel.old
         ≡ kernel_in kernel.old.table (opening kernel.old.table) kernel.old.store }
     requires below { are_cores_below kernel.old.table.cores items.now ≡ true }

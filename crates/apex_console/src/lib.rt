@@ -17,5 +17,5 @@ pub use kernels::{booted, kernel_for, ran, table_for};
 pub use reports::{Report, Run, run_of, write_report};
 pub use streams::write_error;
 pub use words::{
-    bare_line, flag, has_flag, matches_of, option, required, scheduled_items, with_command,
+    Argument, bare_line, has_flag, matches_of, scheduled_items, with_arguments, with_command,
 };

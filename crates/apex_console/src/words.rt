@@ -6,8 +6,8 @@ ghost use Rattle.clap.specs.Words.{App, app_of, first_value, found_of, is_simple
 ghost use Rattle.clap.specs.Words.{subcommand_rows_of, with_subcommand};
 ghost use Rattle.apex_schedules.specs.Schedule.{items_of};
 ghost use Rattle.apex_console.specs.Faults.{IsUsageOrMemory};
-ghost use Rattle.apex_console.specs.Words.{HasFault, NamesCommand, flag_rule, option_rule};
-ghost use Rattle.apex_console.specs.Words.{program_alone, required_rule, says_given};
+ghost use Rattle.apex_console.specs.Words.{HasFault, NamesCommand, option_rule, program_alone};
+ghost use Rattle.apex_console.specs.Words.{rule_for, says_given, with_rules};
 
 use crate::faults::CliFault;
 use apex_schedules::{Item, read_schedule};
@@ -15,28 +15,53 @@ use clap::error::ErrorKind;
 use clap::{Arg, ArgAction, ArgMatches, Command};
 use std::alloc::{AllocError, Global};
 
+/// What a command takes, by its name.
+#[derive(Clone, Copy)]
+pub enum Argument {
+    /// An option with a value, which may be given.
+    Optional(&'static str),
+    /// An option with a value, which must be given.
+    Required(&'static str),
+    /// An option without a value, which may be given.
+    Flag(&'static str),
+}
+
 /// An option with a value, which may be given.
-pub fn option<'a>(alloc: Global, name: &'static str) -> Arg<'a>
+fn option<'a>(alloc: Global, name: &'static str) -> Arg<'a>
     ensures rule { rule_of result ≡ option_rule name.now }
     ensures local { result.global ≡ false }
 {
     Arg::new(alloc, name).long(name).action(ArgAction::Set)
 }
 
-/// An option with a value, which must be given.
-pub fn required<'a>(alloc: Global, name: &'static str) -> Arg<'a>
-    ensures rule { rule_of result ≡ required_rule name.now }
-    ensures local { result.global ≡ false }
-{
-    option(alloc, name).required(true)
+impl Argument {
+    fn arg<'a>(self, alloc: Global) -> Arg<'a>
+        ensures rule { rule_of result ≡ rule_for self }
+        ensures local { result.global ≡ false }
+    {
+        match self {
+            Argument::Optional(name) => option(alloc, name),
+            Argument::Required(name) => option(alloc, name).required(true),
+            Argument::Flag(name) => Arg::new(alloc, name).long(name).action(ArgAction::SetTrue),
+        }
+    }
 }
 
-/// An option without a value, which may be given.
-pub fn flag<'a>(alloc: Global, name: &'static str) -> Arg<'a>
-    ensures rule { rule_of result ≡ flag_rule name.now }
-    ensures local { result.global ≡ false }
+/// The command with these arguments, one behind the other. Fails only for want of memory.
+pub fn with_arguments<'a>(
+    alloc: Global,
+    command: Command<'a>,
+    arguments: &[Argument],
+) -> Result<Command<'a>, AllocError>
+    requires { (fields_of command).has_globals ≡ false }
+    ensures app { IfOk result
+        (λ c. app_of c ≡ with_rules (app_of command.entry) (map rule_for arguments.now)) }
+    ensures local { IfOk result (λ c. (fields_of c).has_globals ≡ false) }
 {
-    Arg::new(alloc, name).long(name).action(ArgAction::SetTrue)
+    match arguments {
+        [argument, others @ ..] => with_arguments(alloc, command.arg(argument.arg(alloc))?, others),
+        [] => Ok(command),
+    }
 }
 
 /// The command line of the program of this name, before it has a command.

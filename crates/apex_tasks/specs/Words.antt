@@ -1,8 +1,8 @@
 -- What the words of the command line ask for; the first word is the program's name.
-use Rattle.std.specs.Prelude.{Bool, List, Option, Some, None, codes, if◌then◌else◌, option_and_then, option_map}
+use Rattle.std.specs.Prelude.{Bool, List, [], ◌∷◌, Option, Some, None, codes, if◌then◌else◌, option_and_then, option_map}
 use Rattle.std.specs.Str.{bytes_eq}
-use Rattle.clap.specs.Words.{App, Row, Text, first_of, new_app, with_rule, with_subcommand}
-use Rattle.apex_console.specs.Words.{flag_rule, option_rule, program_alone, request_by, says_given}
+use Rattle.clap.specs.Words.{App, Row, Text, first_of, new_app, with_subcommand}
+use Rattle.apex_console.specs.Words.{flag_rule, option_rule, program_alone, request_by, says_given, with_rules}
 use Rattle.apex_objects.specs.declared.Form.{Form}
 use Rattle.apex_objects.specs.declared.Form.TheVariants as forms
 use Rattle.apex_tasks.specs.declared.words.LintWords.{LintWords}
@@ -19,32 +19,24 @@ use Rattle.apex_tasks.specs.declared.words.ViewWords.TheVariants as view
 -- the command of this name, `[--schedule S] [--until T] [--turns K] [--early E]`
 abbrev pub view_command : Text → App
 view_command name =
-    with_rule
-    (with_rule
-    (with_rule (with_rule (new_app name) (option_rule (codes "schedule")))
-    (option_rule (codes "until")))
-    (option_rule (codes "turns")))
-    (option_rule (codes "early"))
+    with_rules (new_app name)
+    (option_rule (codes "schedule") ∷ option_rule (codes "until") ∷ option_rule (codes "turns")
+    ∷ option_rule (codes "early") ∷ [])
 
 -- `svg`, which has `[--from N] [--to M] [--by AXIS] [--only NAME,NAME] [--fold]` too
 abbrev pub svg : App
 svg =
-    with_rule
-    (with_rule
-    (with_rule
-    (with_rule (with_rule (view_command (codes "svg")) (option_rule (codes "from")))
-    (option_rule (codes "to")))
-    (option_rule (codes "by")))
-    (option_rule (codes "only")))
-    (flag_rule (codes "fold"))
+    with_rules (view_command (codes "svg"))
+    (option_rule (codes "from") ∷ option_rule (codes "to") ∷ option_rule (codes "by")
+    ∷ option_rule (codes "only") ∷ flag_rule (codes "fold") ∷ [])
 
 -- `trace`, which has `[--tick-us N]` too
 abbrev pub trace_command : App
-trace_command = with_rule (view_command (codes "trace")) (option_rule (codes "tick-us"))
+trace_command = with_rules (view_command (codes "trace")) (option_rule (codes "tick-us") ∷ [])
 
 -- the command of this name, with `[--json]` too
 abbrev pub json_view_command : Text → App
-json_view_command name = with_rule (view_command name) (flag_rule (codes "json"))
+json_view_command name = with_rules (view_command name) (flag_rule (codes "json") ∷ [])
 
 -- the program's command line, with its commands for pictures
 abbrev pub lab_of_pictures : App
@@ -63,47 +55,33 @@ lab_of_views =
     (json_view_command (codes "report")).top)
     (view_command (codes "schedule")).top
 
--- `search [--for WORD] [--process P] [--service WORD]`
-abbrev pub question_command : App
-question_command =
-    with_rule
-    (with_rule
-    (with_rule (with_rule (new_app (codes "search")) (option_rule (codes "for")))
-    (option_rule (codes "worst")))
-    (option_rule (codes "process")))
-    (option_rule (codes "service"))
-
--- with `[--turns K] [--early E] [--states N] [--jobs N]` too
+-- `search [--for WORD] [--process P] [--service WORD]`, `[--worst P]`, and
+-- `[--turns K] [--early E] [--states N] [--jobs N]`
 abbrev pub search_command : App
 search_command =
-    with_rule
-    (with_rule
-    (with_rule (with_rule question_command (option_rule (codes "turns")))
-    (option_rule (codes "early")))
-    (option_rule (codes "states")))
-    (option_rule (codes "jobs"))
+    with_rules (new_app (codes "search"))
+    (option_rule (codes "for") ∷ option_rule (codes "worst") ∷ option_rule (codes "process")
+    ∷ option_rule (codes "service") ∷ option_rule (codes "turns") ∷ option_rule (codes "early")
+    ∷ option_rule (codes "states") ∷ option_rule (codes "jobs") ∷ [])
 
 -- `lint [--json] [--name FILE] [--allow WORD,WORD]`
 abbrev pub lint_command : App
 lint_command =
-    with_rule
-    (with_rule (with_rule (new_app (codes "lint")) (flag_rule (codes "json")))
-    (option_rule (codes "name")))
-    (option_rule (codes "allow"))
+    with_rules (new_app (codes "lint"))
+    (flag_rule (codes "json") ∷ option_rule (codes "name") ∷ option_rule (codes "allow") ∷ [])
 
 -- `step [--json]`
 abbrev pub step_command : App
-step_command = with_rule (new_app (codes "step")) (flag_rule (codes "json"))
+step_command = with_rules (new_app (codes "step")) (flag_rule (codes "json") ∷ [])
 
 -- `check [--json] [--comments]`
 abbrev pub check_command : App
 check_command =
-    with_rule (with_rule (new_app (codes "check")) (flag_rule (codes "json")))
-    (flag_rule (codes "comments"))
+    with_rules (new_app (codes "check")) (flag_rule (codes "json") ∷ flag_rule (codes "comments") ∷ [])
 
 -- `why`, which has `[--entry N]` besides the options that say how a run is given
 abbrev pub why_command : App
-why_command = with_rule (view_command (codes "why")) (option_rule (codes "entry"))
+why_command = with_rules (view_command (codes "why")) (option_rule (codes "entry") ∷ [])
 
 -- the program's command line, with its commands that show a run, that search and that lint
 abbrev pub lab_of_searches : App

@@ -4,9 +4,11 @@ ghost use Rattle.std.specs.Prelude.{map, string_bytes, option_map, option_and_th
 ghost use Rattle.clap.specs.declared.builder.command.Command.TheViews.{out-Command as fields_of};
 ghost use Rattle.clap.specs.Words.{app_of, found_of, rows_of, subcommand_rows_of};
 ghost use Rattle.apex_console.specs.Faults.{IsUsageOrMemory};
-ghost use Rattle.apex_tasks.specs.Words.{check_command, comments_in, dump_in, form_in, given_by, given_in, given_said, json_view_command, lab, lab_of_pictures, lab_of_searches, lab_of_views, lint_command, lint_in, lint_words_said, question_command, request_in, request_of, request_said, search_command, search_in, search_said, shown_said, showing_in, step_command, svg, svg_in, trace_command, trace_in, view_command, view_of, why_command, why_in};
+ghost use Rattle.apex_tasks.specs.Words.{check_command, comments_in, dump_in, form_in, given_by, given_in, given_said, json_view_command, lab, lab_of_pictures, lab_of_searches, lab_of_views, lint_command, lint_in, lint_words_said, request_in, request_of, request_said, search_command, search_in, search_said, shown_said, showing_in, step_command, svg, svg_in, trace_command, trace_in, view_command, view_of, why_command, why_in};
 
-use apex_console::{CliFault, bare_line, flag, has_flag, matches_of, option, with_command};
+use apex_console::{
+    Argument, CliFault, bare_line, has_flag, matches_of, with_arguments, with_command,
+};
 use apex_objects::Form;
 use apex_showings::Listing;
 use clap::{ArgMatches, Command};
@@ -104,28 +106,43 @@ fn view_command<'a>(alloc: Global, name: &'static str) -> Result<Command<'a>, Al
     ensures app { IfOk result (λ c. app_of c ≡ view_command name.now) }
     ensures local { IfOk result (λ c. (fields_of c).has_globals ≡ false) }
 {
-    let with_schedule = Command::new(alloc, name).arg(option(alloc, "schedule"))?;
-    let with_until = with_schedule.arg(option(alloc, "until"))?;
-    let with_turns = with_until.arg(option(alloc, "turns"))?;
-    with_turns.arg(option(alloc, "early"))
+    let command = Command::new(alloc, name);
+    with_arguments(
+        alloc,
+        command,
+        &[
+            Argument::Optional("schedule"),
+            Argument::Optional("until"),
+            Argument::Optional("turns"),
+            Argument::Optional("early"),
+        ],
+    )
 }
 
 fn svg_command<'a>(alloc: Global) -> Result<Command<'a>, AllocError>
     ensures app { IfOk result (λ c. app_of c ≡ svg) }
     ensures local { IfOk result (λ c. (fields_of c).has_globals ≡ false) }
 {
-    let with_from = view_command(alloc, "svg")?.arg(option(alloc, "from"))?;
-    let with_to = with_from.arg(option(alloc, "to"))?;
-    let with_by = with_to.arg(option(alloc, "by"))?;
-    let with_only = with_by.arg(option(alloc, "only"))?;
-    with_only.arg(flag(alloc, "fold"))
+    let command = view_command(alloc, "svg")?;
+    with_arguments(
+        alloc,
+        command,
+        &[
+            Argument::Optional("from"),
+            Argument::Optional("to"),
+            Argument::Optional("by"),
+            Argument::Optional("only"),
+            Argument::Flag("fold"),
+        ],
+    )
 }
 
 fn trace_command<'a>(alloc: Global) -> Result<Command<'a>, AllocError>
     ensures app { IfOk result (λ c. app_of c ≡ trace_command) }
     ensures local { IfOk result (λ c. (fields_of c).has_globals ≡ false) }
 {
-    view_command(alloc, "trace")?.arg(option(alloc, "tick-us"))
+    let command = view_command(alloc, "trace")?;
+    with_arguments(alloc, command, &[Argument::Optional("tick-us")])
 }
 
 /// The command of this name, with `--json` too.
@@ -133,7 +150,8 @@ fn json_view_command<'a>(alloc: Global, name: &'static str) -> Result<Command<'a
     ensures app { IfOk result (λ c. app_of c ≡ json_view_command name.now) }
     ensures local { IfOk result (λ c. (fields_of c).has_globals ≡ false) }
 {
-    view_command(alloc, name)?.arg(flag(alloc, "json"))
+    let command = view_command(alloc, name)?;
+    with_arguments(alloc, command, &[Argument::Flag("json")])
 }
 
 /// The program's command line, with its commands for pictures.
@@ -155,26 +173,25 @@ fn view_commands<'a>(alloc: Global) -> Result<Command<'a>, AllocError>
     with_command(with_report, view_command(alloc, "schedule"))
 }
 
-/// The command `search`, with the options of its question.
-fn question_command<'a>(alloc: Global) -> Result<Command<'a>, AllocError>
-    ensures app { IfOk result (λ c. app_of c ≡ question_command) }
-    ensures local { IfOk result (λ c. (fields_of c).has_globals ≡ false) }
-{
-    let with_fact = Command::new(alloc, "search").arg(option(alloc, "for"))?;
-    let with_worst = with_fact.arg(option(alloc, "worst"))?;
-    let with_process = with_worst.arg(option(alloc, "process"))?;
-    with_process.arg(option(alloc, "service"))
-}
-
 /// The command `search`.
 fn search_command<'a>(alloc: Global) -> Result<Command<'a>, AllocError>
     ensures app { IfOk result (λ c. app_of c ≡ search_command) }
     ensures local { IfOk result (λ c. (fields_of c).has_globals ≡ false) }
 {
-    let with_turns = question_command(alloc)?.arg(option(alloc, "turns"))?;
-    let with_early = with_turns.arg(option(alloc, "early"))?;
-    let with_states = with_early.arg(option(alloc, "states"))?;
-    with_states.arg(option(alloc, "jobs"))
+    with_arguments(
+        alloc,
+        Command::new(alloc, "search"),
+        &[
+            Argument::Optional("for"),
+            Argument::Optional("worst"),
+            Argument::Optional("process"),
+            Argument::Optional("service"),
+            Argument::Optional("turns"),
+            Argument::Optional("early"),
+            Argument::Optional("states"),
+            Argument::Optional("jobs"),
+        ],
+    )
 }
 
 /// The command `lint`.
@@ -182,9 +199,15 @@ fn lint_command<'a>(alloc: Global) -> Result<Command<'a>, AllocError>
     ensures app { IfOk result (λ c. app_of c ≡ lint_command) }
     ensures local { IfOk result (λ c. (fields_of c).has_globals ≡ false) }
 {
-    let with_json = Command::new(alloc, "lint").arg(flag(alloc, "json"))?;
-    let with_name = with_json.arg(option(alloc, "name"))?;
-    with_name.arg(option(alloc, "allow"))
+    with_arguments(
+        alloc,
+        Command::new(alloc, "lint"),
+        &[
+            Argument::Flag("json"),
+            Argument::Optional("name"),
+            Argument::Optional("allow"),
+        ],
+    )
 }
 
 /// The command `step`.
@@ -192,7 +215,11 @@ fn step_command<'a>(alloc: Global) -> Result<Command<'a>, AllocError>
     ensures app { IfOk result (λ c. app_of c ≡ step_command) }
     ensures local { IfOk result (λ c. (fields_of c).has_globals ≡ false) }
 {
-    Command::new(alloc, "step").arg(flag(alloc, "json"))
+    with_arguments(
+        alloc,
+        Command::new(alloc, "step"),
+        &[Argument::Flag("json")],
+    )
 }
 
 /// The command `check`.
@@ -200,8 +227,11 @@ fn check_command<'a>(alloc: Global) -> Result<Command<'a>, AllocError>
     ensures app { IfOk result (λ c. app_of c ≡ check_command) }
     ensures local { IfOk result (λ c. (fields_of c).has_globals ≡ false) }
 {
-    let with_json = Command::new(alloc, "check").arg(flag(alloc, "json"))?;
-    with_json.arg(flag(alloc, "comments"))
+    with_arguments(
+        alloc,
+        Command::new(alloc, "check"),
+        &[Argument::Flag("json"), Argument::Flag("comments")],
+    )
 }
 
 /// The command `why`.
@@ -209,7 +239,8 @@ fn why_command<'a>(alloc: Global) -> Result<Command<'a>, AllocError>
     ensures app { IfOk result (λ c. app_of c ≡ why_command) }
     ensures local { IfOk result (λ c. (fields_of c).has_globals ≡ false) }
 {
-    view_command(alloc, "why")?.arg(option(alloc, "entry"))
+    let command = view_command(alloc, "why")?;
+    with_arguments(alloc, command, &[Argument::Optional("entry")])
 }
 
 /// The program's command line, with its commands that show a run, that search and that lint.

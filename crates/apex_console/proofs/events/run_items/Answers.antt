@@ -8,7 +8,7 @@ use Rattle.apex_console.proofs.ItemRuns.{below_at, items_next, items_split, leng
 use Rattle.apex_console.proofs.events.run_items.Goals as goal
 
 pub loop-item-init : goal.loop-item-init
-loop-item-init c = record {
+loop-item-init g c = record {
   table = refl;
   values = c.holds.ensures.values;
   rest = refl;
@@ -17,13 +17,13 @@ loop-item-init c = record {
 }
 
 pub run_repeated-requires : goal.run_repeated-requires
-run_repeated-requires c =
+run_repeated-requires g c =
     let below = below_at c.args.kernel.now.table.cores c.args.items.now c.loop-item.item-index c.item-item.result
     (omega arith) c.item-item.is c.requires in
     rw c.loop-item.invariant.table (c.repeated-event.ensures.within _ below)
 
 pub returns-in_err-run_repeated-clause-done : goal.returns-in_err-run_repeated-clause-done
-returns-in_err-run_repeated-clause-done c =
+returns-in_err-run_repeated-clause-done g c =
     let table = c.args.kernel.now.table in
     let machine = c.loop-item.kernel.machine in
     let items = c.args.items.now in
@@ -44,7 +44,7 @@ returns-in_err-run_repeated-clause-done c =
     (sym (run-full table made (events_of_items (drop (i + 1) items)) full) ∙ rest)
 
 pub loop-item-preserved : goal.loop-item-preserved
-loop-item-preserved c =
+loop-item-preserved g c =
     let table = c.args.kernel.now.table in
     let machine = c.loop-item.kernel.machine in
     let items = c.args.items.now in

@@ -6,7 +6,7 @@ use Rattle.apex_schedules.specs.Schedule.{events_of_items}
 use Rattle.apex_console.proofs.events.run_items.Given as goal
 
 abbrev pub invariant-loop-item : goal.invariant-loop-item
-invariant-loop-item l = record {
+invariant-loop-item g l = record {
   table : l.kernel.table ≡ l.fn.kernel.table;
   values : l.kernel ≡ kernel_in l.fn.kernel.table l.kernel.machine l.kernel.store;
   rest : run l.fn.kernel.table l.kernel.machine (events_of_items (drop l.item-index l.items))

@@ -6,7 +6,7 @@ use Rattle.apex_console.proofs.ItemRuns.{length-accept, no_room, repeat_next}
 use Rattle.apex_console.proofs.events.run_repeated.Goals as goal
 
 pub loop-round-init : goal.loop-round-init
-loop-round-init c =
+loop-round-init g c =
     let all : c.args.times - 0 ≡ c.args.times = omega arith in
     record {
       table = refl;
@@ -17,7 +17,7 @@ loop-round-init c =
     }
 
 pub returns-in_err-accept-clause-done : goal.returns-in_err-accept-clause-done
-returns-in_err-accept-clause-done c =
+returns-in_err-accept-clause-done g c =
     let table = c.args.kernel.now.table in
     let machine = c.loop-round.kernel.machine in
     let invariant = c.loop-round.invariant in
@@ -31,7 +31,7 @@ returns-in_err-accept-clause-done c =
     (accept-full table machine c.args.event.now full ∙ sym (run-full table machine left full) ∙ invariant.rest)
 
 pub loop-round-preserved : goal.loop-round-preserved
-loop-round-preserved c =
+loop-round-preserved g c =
     let table = c.args.kernel.now.table in
     let machine = c.loop-round.kernel.machine in
     let invariant = c.loop-round.invariant in

@@ -5,7 +5,7 @@ use Rattle.apex_dispatch.specs.Kernel.{kernel_in}
 use Rattle.apex_console.proofs.events.run_repeated.Given as goal
 
 abbrev pub invariant-loop-round : goal.invariant-loop-round
-invariant-loop-round l = record {
+invariant-loop-round g l = record {
   table : l.kernel.table ≡ l.fn.kernel.table;
   values : l.kernel ≡ kernel_in l.fn.kernel.table l.kernel.machine l.kernel.store;
   rest : run l.fn.kernel.table l.kernel.machine (replicate (l.times - l.round) l.event)

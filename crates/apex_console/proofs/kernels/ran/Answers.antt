@@ -6,14 +6,14 @@ use Rattle.apex_console.proofs.ItemRuns.{fault_fits, fault_full, no_room_for}
 use Rattle.apex_console.proofs.kernels.ran.Goals as goal
 
 pub returns-in-Ok-clause-fault : goal.returns-in-Ok-clause-fault
-returns-in-Ok-clause-fault c =
+returns-in-Ok-clause-fault g c =
     let table = c.args.kernel.now.table in
     let events = events_of_items c.args.items.now in
     let fits = rw c.requires.opened at (c.in-Ok.ensures.accepted.0 refl) in
     sym (fault_fits table events (omega (arith, fits)))
 
 pub returns-in-Err-clause-fault : goal.returns-in-Err-clause-fault
-returns-in-Err-clause-fault c =
+returns-in-Err-clause-fault g c =
     let table = c.args.kernel.now.table in
     let events = events_of_items c.args.items.now in
     let many : table.limit < length events =

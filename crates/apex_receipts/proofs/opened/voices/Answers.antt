@@ -3,6 +3,7 @@ use Rattle.std.proofs.lemmas.List.FromFn.{map-range_with_len_more}
 use Rattle.std.specs.Vec.Iter.{into_iter_items}
 use Rattle.apex_types.specs.declared.entries.Who.TheVariants.{Core}
 use Rattle.apex_receipts.specs.Receipts.{Spoken, unspoken}
+use Rattle.std.proofs.lemmas.Grind.{common_steps, moves}
 use Rattle.apex_receipts.proofs.opened.voices.Goals as goal
 
 pub loop-speaker-preserved : goal.loop-speaker-preserved
@@ -22,3 +23,18 @@ loop-speaker-preserved g c =
           ∙ (ap (λ (vs : List Spoken). vs ++ unspoken (Core at.number) ∷ []) at.invariant.voices
           ∙ sym (map-range_with_len_more (λ (core : ℕ). unspoken (Core core)) 0 at.number at.number (omega arith))));
     }
+
+pub new-requires : goal.new-requires
+new-requires g c = grind (arith, common_steps)
+
+pub new-requires-in-loop-speaker-clause-books : goal.new-requires-in-loop-speaker-clause-books
+new-requires-in-loop-speaker-clause-books g c = grind (arith, moves)
+
+pub new-requires-in-loop-speaker-clause-id : goal.new-requires-in-loop-speaker-clause-id
+new-requires-in-loop-speaker-clause-id g c = grind (arith, common_steps)
+
+pub new-requires-in-loop-speaker-clause-empty : goal.new-requires-in-loop-speaker-clause-empty
+new-requires-in-loop-speaker-clause-empty g c = grind (arith, moves)
+
+pub returns : goal.returns
+returns g c = grind (arith, common_steps)

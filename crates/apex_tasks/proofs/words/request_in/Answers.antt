@@ -2,12 +2,13 @@ use Rattle.std.proofs.Common.{rules, ◌≡◌, ◌∙◌, ap, map, refl, string
 use Rattle.clap.specs.Words.{App, is_simple_and_free, subcommand_rows_of}
 use Rattle.std.proofs.lemmas.Result.{err_from_is_err_and}
 use Rattle.apex_console.proofs.CommandLemmas.{asks_nothing, same_fault}
-use Rattle.apex_console.specs.Words.{HasFault, NamesCommand}
+use Rattle.apex_console.specs.Words.{HasFault, NamesCommand, with_rules}
 use Rattle.apex_console.specs.declared.CliFault.TheVariants.{Usage}
 use Rattle.apex_tasks.specs.Words.{lab, request_in}
 use Rattle.apex_tasks.proofs.words.request_in.Goals as goal
 
 pub matches_of-requires : goal.matches_of-requires
+unfolding with_rules
 matches_of-requires c =
     let free : is_simple_and_free lab ≡ true = search rules in
     ap is_simple_and_free c.in-Ok.ensures ∙ free

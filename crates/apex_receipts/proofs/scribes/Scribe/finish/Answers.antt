@@ -1,6 +1,7 @@
-use Rattle.std.proofs.Common.{◌≡◌, ℕ, List, ◌∙◌, ap, refl, subst, None}
+use Rattle.std.proofs.Common.{◌≡◌, ℕ, List, ◌∙◌, ap, refl, subst, None, arith}
 use Rattle.apex_receipts.specs.declared.law.Note.{Note}
 use Rattle.apex_receipts.specs.Notes.{IsAlone, entries_of}
+use Rattle.std.proofs.lemmas.Grind.{common_steps}
 use Rattle.apex_receipts.proofs.Alone.{alone_entries}
 use Rattle.apex_receipts.proofs.Written.{entries_silent}
 use Rattle.apex_receipts.proofs.scribes.Scribe.finish.Goals as goal
@@ -16,3 +17,6 @@ returns g c =
     ap (λ (m : List Note). entries_of l m) (seen ∙ said_it.added)
     ∙ (entries_silent l said_it.before (record { by = i; of = i; entry = None; key = c.call.ensures.said.0 }) refl
     ∙ (alone_entries l own said_it.before alone ∙ c.self.view_is))
+
+pub invariant_of-result : goal.invariant_of-result
+invariant_of-result g c = grind (arith, common_steps)

@@ -1,9 +1,10 @@
-use Rattle.std.proofs.Common.{◌≡◌, List, ◌∙◌, sym, ap, subst}
+use Rattle.std.proofs.Common.{◌≡◌, List, ◌∙◌, sym, ap, subst, arith}
 use mathlib.Core.List.{IsPrefix}
 use Rattle.logbook.specs.Pages.{Nib, step}
 use Rattle.apex_receipts.specs.declared.law.Note.{Note}
 use Rattle.apex_receipts.specs.Notes.{key_of}
 use Rattle.apex_receipts.specs.Rules.{HasHeard, Speech}
+use Rattle.std.proofs.lemmas.Grind.{common_steps}
 use Rattle.apex_receipts.proofs.Alone.{alone_key}
 use Rattle.apex_receipts.proofs.Steps.{has_heard}
 use Rattle.apex_receipts.proofs.speakers.Speaker.hear.Goals as goal
@@ -39,3 +40,6 @@ invariant_of-self c =
           ∙ (ap (λ k. key_of k c.args.self.now.log) id
           ∙ (sym key ∙ ap (λ k. key_of k c.compare_exchange-found.new.seen.log) (sym id))))),
     )
+
+pub compare_exchange-found-requires : goal.compare_exchange-found-requires
+compare_exchange-found-requires c = grind (arith, common_steps)

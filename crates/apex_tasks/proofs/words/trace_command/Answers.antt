@@ -1,0 +1,10 @@
+use Rattle.std.proofs.Common.{◌∙◌, ap, ◌∷◌, [], codes}
+use Rattle.std.proofs.lemmas.Result.{IfOk-weaker}
+use Rattle.clap.specs.Words.{App}
+use Rattle.apex_console.specs.Words.{flag_rule, option_rule, with_rules}
+use Rattle.apex_tasks.proofs.words.trace_command.Goals as goal
+
+pub returns-clause-app : goal.returns-clause-app
+returns-clause-app c =
+    IfOk-weaker c.with_arguments.result _ _ (λ r h. h ∙ ap (λ (a : App). with_rules a (option_rule (codes "tick-us") ∷ [])) c.in_ok-command.ensures.app)
+    c.with_arguments.ensures.app
