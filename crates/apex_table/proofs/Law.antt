@@ -24,7 +24,8 @@ use Rattle.apex_table.specs.Names.{names_of}
 use Rattle.apex_table.specs.Scripts.{with_scripts}
 use Rattle.apex_table.specs.Init.{init_texts, init_list}
 use Rattle.apex_configs.specs.Tables.{table_with}
-use Rattle.apex_table.specs.Reading.{top_keys, TableDraft, IsRead, draft, with_steps}
+use Rattle.apex_table.specs.declared.reading.Head.{Head}
+use Rattle.apex_table.specs.Reading.{top_keys, TableDraft, IsRead, head, draft, with_steps}
 use Rattle.apex_table.proofs.Results.{ok_then, AllFrom, all_from_start}
 use Rattle.apex_table.proofs.KeyLaws.{number_at_law, number_or_law}
 use Rattle.apex_table.proofs.ProcessLaws.{some_process_law, IsSoundDraft, process_law}
@@ -78,11 +79,28 @@ module _ (profile : Profile) (cores limit : ℕ) (drafts : List ProcessDraft) (p
     mutex_names = sound.mutexes.all.distinct;
   }
 
+-- the facts about the head of a table
+pub record IsSoundHead (top : Head) : Type 0 where
+  pub cores : (1 ≤ top.cores) × (top.cores ≤ MOST_CORES)
+  pub limit : (1 ≤ top.limit) × (top.limit ≤ MOST_ENTRIES)
+
+head_law : (tree : Members) → IfOk (head tree) IsSoundHead
+unfolding head
+head_law tree =
+    ok_then (known (place Top 0) top_keys tree) _ IsSoundHead (λ ms _.
+    ok_then (number_or (place Top 0) 1 1 MOST_PROFILE key.Profile ms) _ IsSoundHead (λ number _.
+    ok_then (number_at (place Top 0) 1 MOST_CORES key.Cores ms) _ IsSoundHead (λ cores ec.
+    ok_then (number_or (place Top 0) USUAL_ENTRIES 1 MOST_ENTRIES key.History ms) _ IsSoundHead (λ limit el.
+    record {
+      cores = IfOk-at_ok (λ n. (1 ≤ n) × (n ≤ MOST_CORES)) ec (number_at_law (place Top 0) 1 MOST_CORES key.Cores ms);
+      limit = IfOk-at_ok (λ n. (1 ≤ n) × (n ≤ MOST_ENTRIES)) el (number_or_law (place Top 0) USUAL_ENTRIES 1 MOST_ENTRIES key.History ms (omega arith, omega arith));
+    }))))
+
 -- the facts about a table whose steps are still texts
 pub record IsSoundTable (drafted : TableDraft) : Type 0 where
-  pub cores : (1 ≤ drafted.cores) × (drafted.cores ≤ MOST_CORES)
-  pub limit : (1 ≤ drafted.limit) × (drafted.limit ≤ MOST_ENTRIES)
-  pub processes : IsSection (processes drafted.profile drafted.cores) (IsSoundDraft drafted.cores) drafted.processes
+  pub head : IsSoundHead drafted.head
+  pub processes :
+      IsSection (processes drafted.head.profile drafted.head.cores) (IsSoundDraft drafted.head.cores) drafted.processes
   pub some : 1 ≤ length drafted.processes
   pub objects : AreLawful drafted.objects
   pub init : AreFew drafted.init
@@ -90,38 +108,35 @@ pub record IsSoundTable (drafted : TableDraft) : Type 0 where
 draft_law : (tree : Members) → IfOk (draft tree) IsSoundTable
 unfolding draft
 draft_law tree =
-    ok_then (known (place Top 0) top_keys tree) _ IsSoundTable (λ ms _.
-    ok_then (number_or (place Top 0) 1 1 MOST_PROFILE key.Profile ms) _ IsSoundTable (λ number _.
-    ok_then (number_at (place Top 0) 1 MOST_CORES key.Cores ms) _ IsSoundTable (λ cores ec.
-    ok_then (number_or (place Top 0) USUAL_ENTRIES 1 MOST_ENTRIES key.History ms) _ IsSoundTable (λ limit el.
-    ok_then (section (processes (profile_of number) cores) ms) _ IsSoundTable (λ read ep.
+    ok_then (head tree) _ IsSoundTable (λ top et.
+    ok_then (section (processes top.profile top.cores) tree) _ IsSoundTable (λ read ep.
     ok_then (some_process read) _ IsSoundTable (λ drafts es.
-    ok_then (objects ms) _ IsSoundTable (λ things eo.
-    ok_then (init_texts (value_at (key.Entries Init) ms)) _ IsSoundTable (λ texts et.
-    let profile = profile_of number in
-    let in_cores : (1 ≤ cores) × (cores ≤ MOST_CORES) = IfOk-at_ok (λ n. (1 ≤ n) × (n ≤ MOST_CORES)) ec (number_at_law (place Top 0) 1 MOST_CORES key.Cores ms) in
+    ok_then (objects tree) _ IsSoundTable (λ things eo.
+    ok_then (init_texts (value_at (key.Entries Init) tree)) _ IsSoundTable (λ texts ei.
+    let profile = top.profile in
+    let cores = top.cores in
+    let sound : IsSoundHead top = IfOk-at_ok IsSoundHead et (head_law tree) in
     let some : (read ≡ drafts) × (1 ≤ length drafts) = IfOk-at_ok (λ (xs : List ProcessDraft). (read ≡ xs) × (1 ≤ length xs)) es (some_process_law read) in
     record {
-      cores = in_cores;
-      limit = IfOk-at_ok (λ n. (1 ≤ n) × (n ≤ MOST_ENTRIES)) el (number_or_law (place Top 0) USUAL_ENTRIES 1 MOST_ENTRIES key.History ms (omega arith, omega arith));
+      head = sound;
       processes =
           subst (IsSection (processes profile cores) (IsSoundDraft cores)) some.0
-          (IfOk-at_ok (IsSection (processes profile cores) (IsSoundDraft cores)) ep (section_law (processes profile cores) (IsSoundDraft cores) (process_law profile cores in_cores.0) ms));
+          (IfOk-at_ok (IsSection (processes profile cores) (IsSoundDraft cores)) ep (section_law (processes profile cores) (IsSoundDraft cores) (process_law profile cores sound.cores.0) tree));
       some = some.1;
-      objects = IfOk-at_ok AreLawful eo (objects_law ms);
-      init = IfOk-at_ok AreFew et (init_texts_law (value_at (key.Entries Init) ms));
-    }))))))))
+      objects = IfOk-at_ok AreLawful eo (objects_law tree);
+      init = IfOk-at_ok AreFew ei (init_texts_law (value_at (key.Entries Init) tree));
+    })))))
 
 with_steps_law : (drafted : TableDraft) → IsSoundTable drafted → IfOk (with_steps drafted) IsLawful
 unfolding with_steps
 with_steps_law drafted sound =
-    let cores = drafted.cores in
-    let limit = drafted.limit in
+    let cores = drafted.head.cores in
+    let limit = drafted.head.limit in
     let drafts = drafted.processes in
     let things = drafted.objects in
     ok_then (with_scripts (names_of drafts things) drafts) _ IsLawful (λ procs ew.
     ok_then (init_list (names_of drafts things) procs things drafted.init) _ IsLawful (λ steps ei.
-    let profile = drafted.profile in
+    let profile = drafted.head.profile in
     let whole : Table = table_with profile cores limit procs things steps in
     let few : length drafts ≤ processes_of profile = sound.processes.few in
     let some : 1 ≤ length drafts = sound.some in
@@ -133,7 +148,7 @@ with_steps_law drafted sound =
     let drafts_count : length (process_names drafts) ≡ length drafts = length-map drafts (λ (p : ProcessDraft). p.name) in
     let each : AllFrom (IsLawfulProcess whole) 0 procs = IfOk-at_ok (AllFrom (IsLawfulProcess whole) 0) ew (with_scripts_law whole (names_of drafts things) names drafts sound.processes.all.each) in
     let init : IsInitList whole steps = IfOk-at_ok (IsInitList whole) ei (init_list_law profile cores limit procs things steps (names_of drafts things) names (omega arith) sound.objects drafted.init sound.init) in
-    lawful profile cores limit drafts procs things steps sound.cores sound.limit (omega arith, omega arith)
+    lawful profile cores limit drafts procs things steps sound.head.cores sound.head.limit (omega arith, omega arith)
     (subst (λ (ns : List (List ℕ)). IsDistinct bytes_eq ns) (sym same) sound.processes.all.distinct) each sound.objects init))
 
 -- the table with the steps of one that was read is lawful

@@ -204,7 +204,7 @@ steps_texts drafted =
     let names = names_of drafted.processes drafted.objects in
     ok_then (with_scripts names drafted.processes) _ (λ t. IsLawful t → HaveTexts t) (λ procs ew.
     ok_then (init_list names procs drafted.objects drafted.init) _ (λ t. IsLawful t → HaveTexts t) (λ steps ei lawful.
-    whole_texts drafted.profile drafted.cores drafted.limit drafted.processes procs drafted.objects steps lawful drafted.init ew ei))
+    whole_texts drafted.head.profile drafted.head.cores drafted.head.limit drafted.processes procs drafted.objects steps lawful drafted.init ew ei))
 
 -- each step of the table with the steps of one that was read has one text
 texts_of_draft : (drafted : TableDraft) (t : Table) → IsRead drafted → with_steps drafted ≡ Ok t → HaveTexts t

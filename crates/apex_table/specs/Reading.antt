@@ -5,10 +5,11 @@ use Rattle.toml.specs.Data.{Members}
 use Rattle.toml.specs.Parse.{parse_document}
 use Rattle.apex_types.specs.declared.limits.TheConstants.{MOST_CORES, MOST_ENTRIES, MOST_PROFILE, USUAL_ENTRIES}
 use Rattle.apex_machine.specs.table.Profiles.{profile_of}
-use Rattle.apex_machine.specs.table.Table.{ProcessConfig, Step, Table}
+use Rattle.apex_machine.specs.table.Table.{Table}
 use Rattle.apex_words.specs.declared.fault.Section.TheVariants.{Top, Process, Semaphore, Buffer, Blackboard, EventFlag, Mutex, Init}
 use Rattle.apex_words.specs.declared.key.Key.TheVariants as key
-use Rattle.apex_table.specs.Terms.{Key, Profile, TableFault}
+use Rattle.apex_table.specs.Terms.{Key, TableFault}
+use Rattle.apex_table.specs.declared.reading.Head.{Head}
 use Rattle.apex_words.specs.declared.fault.TableFault.TheVariants.{NotToml}
 use Rattle.apex_words.specs.Outcome.{◌>>=◌, some_or, place}
 use Rattle.apex_table.specs.Keys.{known, number_at, number_or, value_at}
@@ -28,11 +29,22 @@ top_keys =
     ∷ key.Entries Semaphore ∷ key.Entries Buffer ∷ key.Entries Blackboard ∷ key.Entries EventFlag
     ∷ key.Entries Mutex ∷ key.Entries Init ∷ []
 
+-- the head of a table: what its top says beside the entries
+unfoldable pub head : Members → Result Head TableFault
+head tree = do
+  ms ← known (place Top 0) top_keys tree
+  number ← number_or (place Top 0) 1 1 MOST_PROFILE key.Profile ms
+  cores ← number_at (place Top 0) 1 MOST_CORES key.Cores ms
+  limit ← number_or (place Top 0) USUAL_ENTRIES 1 MOST_ENTRIES key.History ms
+  Ok (record {
+    profile = profile_of number;
+    cores = cores;
+    limit = limit;
+  })
+
 -- a table whose steps are still texts
 pub record TableDraft : Type 0 where
-  pub profile : Profile
-  pub cores : ℕ
-  pub limit : ℕ
+  pub head : Head
   pub processes : List ProcessDraft
   pub objects : Objects
   pub init : Option (List (List ℕ))
@@ -40,18 +52,13 @@ pub record TableDraft : Type 0 where
 -- the table of TOML's tree, its steps still as texts
 unfoldable pub draft : Members → Result TableDraft TableFault
 draft tree = do
-  ms ← known (place Top 0) top_keys tree
-  number ← number_or (place Top 0) 1 1 MOST_PROFILE key.Profile ms
-  cores ← number_at (place Top 0) 1 MOST_CORES key.Cores ms
-  limit ← number_or (place Top 0) USUAL_ENTRIES 1 MOST_ENTRIES key.History ms
-  drafts ← section (processes (profile_of number) cores) ms
+  top ← head tree
+  drafts ← section (processes top.profile top.cores) tree
   some ← some_process drafts
-  things ← objects ms
-  texts ← init_texts (value_at (key.Entries Init) ms)
+  things ← objects tree
+  texts ← init_texts (value_at (key.Entries Init) tree)
   Ok (record {
-    profile = profile_of number;
-    cores = cores;
-    limit = limit;
+    head = top;
     processes = some;
     objects = things;
     init = texts;
@@ -67,7 +74,7 @@ unfoldable pub with_steps : TableDraft → Result Table TableFault
 with_steps drafted = do
   procs ← with_scripts (names_of drafted.processes drafted.objects) drafted.processes
   steps ← init_list (names_of drafted.processes drafted.objects) procs drafted.objects drafted.init
-  Ok (table_with drafted.profile drafted.cores drafted.limit procs drafted.objects steps)
+  Ok (table_with drafted.head.profile drafted.head.cores drafted.head.limit procs drafted.objects steps)
 
 -- the table of TOML's tree
 unfoldable pub reading : Members → Result Table TableFault

@@ -1,9 +1,9 @@
 //! The reading of a whole table.
 ghost use Rattle.std.specs.Prelude.{◌≤◌, length, IfOk, IfSome};
-ghost use Rattle.apex_types.specs.declared.limits.TheConstants.{MOST_INIT_STEPS, MOST_PROCESSES};
+ghost use Rattle.apex_types.specs.declared.limits.TheConstants.{MOST_CORES, MOST_INIT_STEPS, MOST_PROCESSES};
 ghost use Rattle.toml.specs.View.{table_view};
 ghost use Rattle.apex_words.specs.Outcome.{Gives};
-ghost use Rattle.apex_table.specs.Reading.{IsRead, draft, with_steps, document, table_of};
+ghost use Rattle.apex_table.specs.Reading.{IsRead, head, draft, with_steps, document, table_of};
 ghost use Rattle.apex_table.specs.StepTexts.{HaveTexts};
 
 use crate::init::{init_list, init_texts};
@@ -34,12 +34,18 @@ const TOP_KEYS: &[Key] = &[
     Key::Entries(Section::Init),
 ];
 
-/// A table whose steps are still texts.
-#[derive(Drop)]
-struct TableDraft<'a> {
+/// What the top of a table says beside its entries.
+#[derive(Clone, Copy)]
+struct Head {
     profile: Profile,
     cores: u8,
     limit: u32,
+}
+
+/// A table whose steps are still texts.
+#[derive(Drop)]
+struct TableDraft<'a> {
+    head: Head,
     processes: Vec<Draft<'a>>,
     objects: Objects,
     init: Option<Vec<&'a str>>,
@@ -52,13 +58,29 @@ impl<'a> Model for TableDraft<'a> {
     ghost Value = { TableDraft };
 
     ghost view = { λ d. record {
-      profile = d.profile;
-      cores = d.cores;
-      limit = d.limit;
+      head = d.head;
       processes = d.processes.items;
       objects = d.objects;
       init = option_map (λ v. map (λ t. t.now) v.items) d.init;
     } };
+}
+
+/// The head of the table of TOML's tree; the tree has no other keys.
+#[tactic(auto, unfolding(crate::specs::Reading::head))]
+fn read_head(tree: &toml::Table) -> Result<Head, TableFault>
+    ensures gives { Gives (λ h. h) result (head (table_view tree.now)) }
+    ensures cores { IfOk result (λ h. (1 ≤ h.cores) × (h.cores ≤ MOST_CORES)) }
+{
+    let at = Place::of(Section::Top);
+    keys::only(at, TOP_KEYS, tree)?;
+    let profile = Profile::of(keys::number_or(at, 1, 1, MOST_PROFILE, tree, Key::Profile)?);
+    let cores = keys::number_at(at, 1, MOST_CORES, tree, Key::Cores)?;
+    let limit = keys::number_or(at, USUAL_ENTRIES, 1, MOST_ENTRIES, tree, Key::History)?;
+    Ok(Head {
+        profile,
+        cores: cores as u8,
+        limit,
+    })
 }
 
 /// The table of TOML's tree, its steps still as texts.
@@ -68,19 +90,17 @@ fn read_draft(alloc: Global, tree: &toml::Table) -> Result<TableDraft<'_>, Table
     ensures few_processes { IfOk result (λ d. length d.processes ≤ MOST_PROCESSES) }
     ensures few_steps { IfOk result (λ d. IfSome d.init (λ ts. length ts ≤ MOST_INIT_STEPS)) }
 {
-    let at = Place::of(Section::Top);
-    keys::only(at, TOP_KEYS, tree)?;
-    let profile = Profile::of(keys::number_or(at, 1, 1, MOST_PROFILE, tree, Key::Profile)?);
-    let cores = keys::number_at(at, 1, MOST_CORES, tree, Key::Cores)?;
-    let limit = keys::number_or(at, USUAL_ENTRIES, 1, MOST_ENTRIES, tree, Key::History)?;
-    let processes = read_section(alloc, &Processes { profile, cores }, tree)?;
+    let head = read_head(tree)?;
+    let entries = Processes {
+        profile: head.profile,
+        cores: u32::from(head.cores),
+    };
+    let processes = read_section(alloc, &entries, tree)?;
     some_process(&processes)?;
     let objects = read_objects(alloc, tree)?;
     let init = init_texts(alloc, keys::value_at(tree, Key::Entries(Section::Init)))?;
     Ok(TableDraft {
-        profile,
-        cores: cores as u8,
-        limit,
+        head,
         processes,
         objects,
         init,
@@ -96,9 +116,7 @@ fn with_steps(alloc: Global, draft: TableDraft) -> Result<Table, TableFault>
     ensures { Gives (λ t. t) result (with_steps draft.entry) }
 {
     let TableDraft {
-        profile,
-        cores,
-        limit,
+        head,
         processes: drafts,
         objects,
         init: texts,
@@ -108,9 +126,9 @@ fn with_steps(alloc: Global, draft: TableDraft) -> Result<Table, TableFault>
     let init = init_list(alloc, &names, &processes, &objects, texts)?;
     let script_texts = script_texts(alloc, &drafts)?;
     Ok(Table::new(
-        profile,
-        cores,
-        limit,
+        head.profile,
+        head.cores,
+        head.limit,
         processes,
         objects,
         init,

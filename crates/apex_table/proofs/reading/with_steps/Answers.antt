@@ -20,15 +20,15 @@ new-requires c =
     let init = c.in_ok-init.init.items in
     let scripts : with_scripts (names_of draft.processes draft.objects) draft.processes ≡ Ok processes = search rules in
     let steps : init_list (names_of draft.processes draft.objects) processes draft.objects draft.init ≡ Ok init = search rules in
-    let lawful : IsLawful (table_with draft.profile draft.cores draft.limit processes draft.objects init) =
+    let lawful : IsLawful (table_with draft.head.profile draft.head.cores draft.head.limit processes draft.objects init) =
     lawful_of draft _ (record { tree = c.requires.read.tree; read = c.requires.read.read }) (rw (scripts, steps) refl) in
-    subst (λ (d : TableDraft). IsWithTexts c.in_ok-script_texts.script_texts.items (table_with d.profile d.cores d.limit processes d.objects init)) (sym c.draft.view_is)
+    subst (λ (d : TableDraft). IsWithTexts c.in_ok-script_texts.script_texts.items (table_with d.head.profile d.head.cores d.head.limit processes d.objects init)) (sym c.draft.view_is)
     (record {
       lawful = lawful;
       kept =
           (rw c.deref-4.ensures.value at c.in_ok-script_texts.ensures)
           ∙ ap (λ (d : TableDraft). map (λ (p : ProcessDraft). p.script) d.processes) c.draft.view_is
-          ∙ kept_texts draft.profile draft.cores draft.limit draft.processes processes draft.objects init draft.init lawful scripts steps;
+          ∙ kept_texts draft.head.profile draft.head.cores draft.head.limit draft.processes processes draft.objects init draft.init lawful scripts steps;
     })
 
 pub init_list-requires-clause-texts : goal.init_list-requires-clause-texts
