@@ -1,11 +1,11 @@
 -- The ways in which an explanation ends.
 use Rattle.std.proofs.Common.{◌≡◌, Bool, Err}
 use Rattle.std.specs.Io.KnownBytes.{Keeps}
+use Rattle.apex_json.specs.declared.Form.{Form}
 use Rattle.apex_history.specs.Counted.{CountsFault}
 use Rattle.apex_history.specs.Ports.{Ports}
 use Rattle.apex_history.specs.declared.reading.ReadFault.{ReadFault}
 use Rattle.apex_history.specs.declared.reading.ReadFault.TheVariants as read_fault
-use Rattle.apex_objects.specs.declared.Form.{Form}
 use Rattle.apex_departures.specs.Ends.{Ends, no_memory, unread}
 use Rattle.apex_departures.specs.Explained.{fault_of_reading}
 

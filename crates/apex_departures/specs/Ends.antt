@@ -1,12 +1,12 @@
 -- The ends of an explanation.
 use Rattle.std.specs.Prelude.{Bool, ℕ, List, Result, Ok, Err}
 use Rattle.std.specs.Io.KnownBytes.{Appends, Keeps}
+use Rattle.apex_json.specs.declared.Form.{Form}
 use Rattle.apex_history.specs.Counted.{AppendsBeginning}
 use Rattle.apex_history.specs.Ports.{Ports, NoneFails, AReadFails, AWriteFails, IsLeft}
 use Rattle.apex_check.specs.declared.verdicts.Verdict.{Verdict}
 use Rattle.apex_check.specs.declared.verdicts.CheckFault.{CheckFault}
 use Rattle.apex_check.specs.declared.verdicts.CheckFault.TheVariants.{Memory, Read, Write}
-use Rattle.apex_objects.specs.declared.Form.{Form}
 use Rattle.apex_departures.specs.Explained.{IsExplained, IsRefused}
 
 -- The ways in which an explanation ends: by the reader and the writer before, the answer, and the

@@ -1,5 +1,7 @@
 -- The verdict on a text in which comments may be left out, and its explanation.
 use Rattle.std.specs.Prelude.{◌≡◌, ℕ, ◌-◌, Bool, is_some, if◌then◌else◌, List, ◌++◌, Option, None, Some}
+use Rattle.apex_json.specs.declared.Form.{Form}
+use Rattle.apex_json.specs.declared.Form.TheVariants as forms
 use Rattle.apex_machine.specs.table.Table.{Table}
 use Rattle.apex_machine.specs.Machine.{Machine, events_of}
 use Rattle.apex_history.specs.declared.reading.ReadFault.{ReadFault}
@@ -11,8 +13,6 @@ use Rattle.apex_check.specs.declared.verdicts.CheckFault.TheVariants.{Memory, Ba
 use Rattle.apex_check.specs.Verdicts.{HasFollowed, IsAtFault, verdict_text}
 use Rattle.apex_departures.specs.Terms.{Event}
 use Rattle.apex_departures.specs.Lines.{followed_text, given_parts, number_given, part_given}
-use Rattle.apex_objects.specs.declared.Form.{Form}
-use Rattle.apex_objects.specs.declared.Form.TheVariants as forms
 use Rattle.apex_departures.specs.Objects.{departure_object, legal_object, reason_end}
 use Rattle.apex_departures.specs.Pages.{departure_text, reason_line}
 use Rattle.apex_departures.specs.Why.{HasEvent, IsReasonAt}

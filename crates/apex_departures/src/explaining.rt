@@ -18,7 +18,7 @@ use apex_check::{CheckFault, Followed, Verdict, follow};
 use apex_configs::Table;
 use apex_dispatch::Kernel;
 use apex_history::{Counted, ReadFault, Sink, Source, read_all};
-use apex_objects::Form;
+use apex_json::Form;
 use apex_process::QueueStore;
 use std::alloc::{AllocError, Global};
 use std::io::{self, Write};

@@ -1,11 +1,11 @@
 -- A history that is checked, and how the program ends.
 use Rattle.std.specs.Prelude.{◌≡◌, Bool, Result, Ok, Err}
+use Rattle.apex_json.specs.declared.Form.{Form}
 use Rattle.apex_history.specs.Ports.{Ports}
 use Rattle.apex_check.specs.declared.CheckFault.{CheckFault}
 use Rattle.apex_check.specs.declared.Verdict.{Verdict}
 use Rattle.apex_check.specs.declared.Verdict.TheVariants.{Legal, DepartsAt}
 use Rattle.apex_console.specs.Faults.{fault_of_checking}
-use Rattle.apex_objects.specs.declared.Form.{Form}
 use Rattle.apex_departures.specs.Ends as departures
 use Rattle.apex_lab_cli.specs.Ends.{End, complete, explains, fails}
 use Rattle.apex_lab_cli.specs.declared.faults.LabFault.TheVariants.{Common}

@@ -1,9 +1,9 @@
 -- How the program ends.
 use Rattle.std.specs.Prelude.{◌≡◌, Bool, List, ℕ, Result, Ok, Err}
 use Rattle.std.specs.Io.KnownBytes.{Keeps}
+use Rattle.apex_json.specs.declared.Form.{Form}
 use Rattle.apex_history.specs.Ports.{Ports, NoneFails}
 use Rattle.apex_console.specs.declared.CliFault.TheVariants.{Memory, Usage}
-use Rattle.apex_objects.specs.declared.Form.{Form}
 use Rattle.apex_showings.specs.Schedules.{IsBadIn}
 use Rattle.apex_showings.specs.Showings.{Showing, Source}
 use Rattle.apex_views.specs.Shows.{ShowEnd, ShowEnds}

@@ -1,9 +1,9 @@
 -- A session that answers commands, and how the program ends.
 use Rattle.std.specs.Prelude.{◌≡◌, Result, Ok, Err}
+use Rattle.apex_json.specs.declared.Form.{Form}
 use Rattle.apex_history.specs.Ports.{Ports}
 use Rattle.apex_console.specs.declared.CliFault.{CliFault}
 use Rattle.apex_console.specs.declared.CliFault.TheVariants as common
-use Rattle.apex_objects.specs.declared.Form.{Form}
 use Rattle.apex_steps.specs.Endings.{Serves}
 use Rattle.apex_steps.specs.declared.StepFault.{StepFault}
 use Rattle.apex_steps.specs.declared.StepFault.TheVariants.{Memory, Table, NoSeparator, Read, Write}

@@ -10,7 +10,7 @@ use apex_check::{CheckFault, Verdict};
 use apex_console::CliFault;
 use apex_departures::explain;
 use apex_history::{Counted, Sink, Source};
-use apex_objects::Form;
+use apex_json::Form;
 use std::alloc::Global;
 
 /// The end of the program with this verdict.

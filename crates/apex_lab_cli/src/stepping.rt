@@ -8,7 +8,7 @@ use crate::ends::Ending;
 use crate::faults::LabFault;
 use apex_console::CliFault;
 use apex_history::{Counted, Sink, Source};
-use apex_objects::Form;
+use apex_json::Form;
 use apex_steps::{StepFault, serve_steps};
 use std::alloc::Global;
 

@@ -2,6 +2,7 @@
 use Rattle.std.specs.Prelude.{◌≡◌, codes, decimal, ℕ, ◌+◌, zero, suc, nat_lt, ◌==◌, ◌||◌, if◌then◌else◌, List, [], ◌∷◌, ◌++◌, flat_map, length, map, string_bytes, Option, Some, None, Result, Ok, Err}
 use Rattle.std.specs.List.{All, filter}
 use Rattle.apex_json.specs.Strings.{json_text}
+use Rattle.apex_json.specs.declared.Form.TheVariants.{Text, Json}
 use Rattle.apex_machine.specs.table.Table.{Table}
 use Rattle.apex_words.specs.Fault.{key_word, section_word}
 use Rattle.apex_table.specs.Reading.{table_of}
@@ -10,7 +11,6 @@ use Rattle.apex_faults.specs.Locations.{IsLocationIn}
 use Rattle.apex_faults.specs.declared.Location.{Location}
 use Rattle.apex_remarks.specs.Remarks.{Head, head, heads_by, severity_word}
 use Rattle.apex_lint.specs.Terms.{Form, Part, Remark, Report, Subject, TableFault, Verdict}
-use Rattle.apex_lint.specs.declared.reports.Form.TheVariants.{Lines, Json}
 use Rattle.apex_lint.specs.declared.reports.Verdict.TheVariants.{Accepted, Warned, Refused}
 
 -- the number of an entry, unless the remark is about the section as a whole
@@ -141,7 +141,7 @@ objects_text file (remark ∷ remarks) =
     codes "[\n" ++ object_text file remark ++ more_objects_text file remarks ++ codes "\n]\n"
 
 abbrev pub report_text : Form → List ℕ → List Remark → List ℕ
-report_text Lines file remarks = lines_text file remarks
+report_text Text file remarks = lines_text file remarks
 report_text Json file remarks = objects_text file remarks
 
 -- the verdict on a table, by the remarks

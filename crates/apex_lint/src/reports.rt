@@ -8,20 +8,11 @@ ghost use Rattle.apex_lint.specs.Terms.{Remark};
 ghost use Rattle.apex_lint.specs.Reports.{HasALineForEach, IsReportOn, column_member, kind_members, line_member, line_text, lines_text, location_members, location_text, message, middle_members, more_objects_text, next_object_text, object_end, object_front, object_text, objects_text, part_members, place_words, plain_line, quoted, remark_text, report_text, shown_byte, subject_members, verdict_by, verdict_on, mark_text, marks_text, severity_text, said_text, code_text, told_text, step_member, word_member, first_members};
 
 use apex_faults::Location;
-use apex_json::put_json;
+use apex_json::{Form, put_json};
 use apex_remarks::{Remark, remarks_on_faults, remarks_on_table};
 use apex_table::read_table;
 use apex_words::{Part, Subject, TableFault};
 use std::alloc::{AllocError, Global};
-
-/// How a report is written.
-#[derive(Clone, Copy, PartialEq, Eq)]
-pub enum Form {
-    /// A line for each remark: `FILE:LINE:COLUMN: error: TEXT`, or `warning` in place of `error`.
-    Lines,
-    /// An array of JSON with an object for each remark, one a line.
-    Json,
-}
 
 /// What a table's text is found to be.
 #[derive(Clone, Copy, PartialEq, Eq)]
@@ -416,7 +407,7 @@ fn report_text(
 {
     let mut out = Vec::new(alloc);
     match form {
-        Form::Lines => put_lines(alloc, &mut out, file, remarks)?,
+        Form::Text => put_lines(alloc, &mut out, file, remarks)?,
         Form::Json => put_objects(alloc, &mut out, file, remarks)?,
     }
     Ok(out)
@@ -464,7 +455,9 @@ fn judge(alloc: Global, allowed: &[&str], text: &[u8]) -> Result<Judgement, Allo
 }
 
 /// The report on the text: all its faults, or else its warnings but for those that are `allowed`,
-/// each with its place in the text. `file` is the name under which the text is reported.
+/// each with its place in the text. `file` is the name under which the text is reported. As text it
+/// has a line for each remark: `FILE:LINE:COLUMN: error: TEXT`, or `warning` in place of `error`. As
+/// JSON it is an array with an object for each remark, one a line.
 pub fn report_on(
     alloc: Global,
     form: Form,

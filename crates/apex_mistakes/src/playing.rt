@@ -1,6 +1,7 @@
 //! The comparison of the cases with the reports on their tables.
 use crate::cases::Case;
-use apex_lint::{Form, Report, Verdict, report_on};
+use apex_json::Form;
+use apex_lint::{Report, Verdict, report_on};
 use apex_warnings::allowed_in;
 use std::alloc::{AllocError, AllocGlobal, Global};
 use std::process::ExitCode;
@@ -35,7 +36,7 @@ fn allowed_by<'a>(alloc: Global, request: &'a str) -> Result<Vec<&'a str>, Alloc
 fn report_of(alloc: Global, case: Case<'_>) -> Result<Report, AllocError> {
     let (form, file) = match case.request {
         "json" => (Form::Json, "a \"table\""),
-        _ => (Form::Lines, "-"),
+        _ => (Form::Text, "-"),
     };
     let allowed = allowed_by(alloc, case.request)?;
     report_on(alloc, form, file, &allowed, case.table.as_bytes())

@@ -5,7 +5,6 @@
 mod answers;
 mod elements;
 mod entries;
-mod forms;
 mod histories;
 mod laws;
 mod lines;
@@ -18,7 +17,6 @@ mod writing;
 
 pub use answers::{MOST_FAULT, put_count, put_fault, put_front, put_next};
 pub use entries::put_entry_object;
-pub use forms::Form;
 pub use histories::print_history_objects;
 pub use laws::texts_are_read_back;
 pub use lines::{MOST_OBJECT, OBJECTS_ROOM, ObjectLines};

@@ -3,7 +3,7 @@ use crate::papers::{held_by, paper};
 use apex_check::{CheckFault, Verdict};
 use apex_departures::explain;
 use apex_history::{Counted, FailAt};
-use apex_objects::Form;
+use apex_json::Form;
 use std::alloc::Global;
 use std::process::Abort;
 

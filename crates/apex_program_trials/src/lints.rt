@@ -1,6 +1,7 @@
 //! Reports on the texts of tables; the lines that are wanted follow from the rules of their form.
 
-use apex_lint::{Form, Verdict, report_on};
+use apex_json::Form;
+use apex_lint::{Verdict, report_on};
 use apex_warnings::allowed_in;
 use std::alloc::Global;
 use std::mem::drop;
@@ -73,10 +74,10 @@ script = ["GET_TIME"]
 
 /// Texts, each with the form of a report, its parts and the verdict.
 const REPORTS: [(&str, Form, &[&str], Verdict); 5] = [
-    (REFUSED, Form::Lines, &[FAULTS], Verdict::Refused),
+    (REFUSED, Form::Text, &[FAULTS], Verdict::Refused),
     (REFUSED, Form::Json, &[FAULT_OBJECTS], Verdict::Refused),
-    (DOUBTFUL, Form::Lines, &DOUBTS, Verdict::Warned),
-    (PLAIN, Form::Lines, &[], Verdict::Accepted),
+    (DOUBTFUL, Form::Text, &DOUBTS, Verdict::Warned),
+    (PLAIN, Form::Text, &[], Verdict::Accepted),
     (PLAIN, Form::Json, &["[]\n"], Verdict::Accepted),
 ];
 
@@ -124,7 +125,7 @@ fn warnings_are_left_out_by_their_words(rt: HostRuntime) {
     assert!(rt; !are_words(&rt, rt.alloc(), "empty-script,"));
     let words = allowed_in(rt.alloc(), "empty-script,much-work").expect(&rt, "memory");
     let allowed = words.expect(&rt, "the words of two warnings");
-    let warned = (Form::Lines, Verdict::Warned);
+    let warned = (Form::Text, Verdict::Warned);
     has_report(&rt, rt.alloc(), warned, &allowed, DOUBTFUL, &DOUBTS[1..]);
     drop(allowed);
 }

@@ -1,7 +1,7 @@
 //! Whole sessions: what is written on the text of a table and of commands.
 use crate::papers::{held_by, paper};
 use apex_history::{Counted, FailAt};
-use apex_objects::Form;
+use apex_json::Form;
 use apex_steps::{StepFault, serve_steps};
 use std::alloc::Global;
 use std::io::{self, Error, ErrorKind, Read, Write};

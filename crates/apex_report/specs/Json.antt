@@ -1,11 +1,11 @@
 -- The report of a history as JSON (this profile): one object, whose figures have the keys that they have
 -- in the lines.
 use Rattle.std.specs.Prelude.{ℕ, List, [], ◌∷◌, ◌++◌, codes, decimal, flat_map}
+use Rattle.apex_json.specs.declared.Form.TheVariants.{Json}
 use Rattle.apex_machine.specs.table.Table.{Table}
 use Rattle.apex_report.specs.Report.{Report, report}
 use Rattle.apex_report.specs.Rows.{behind_text, core_row, object_row, process_row, service_row}
 use Rattle.apex_report.specs.Terms.{Entry}
-use Rattle.apex_report.specs.declared.members.Form.TheVariants.{Json}
 
 -- the elements of an array, each on a line of its own
 abbrev pub elements_text : {X : Type 0} → (X → List ℕ) → List X → List ℕ

@@ -1,6 +1,7 @@
 -- The rows of a report, each in both forms (this profile): a line, or a JSON object. A row is a head with a
 -- name or a number, the members behind it, and the end.
 use Rattle.std.specs.Prelude.{ℕ, List, [], ◌∷◌, ◌++◌, Bool, true, Option, None, Some, codes, decimal, option_map, if◌then◌else◌}
+use Rattle.apex_json.specs.declared.Form.TheVariants.{Text, Json}
 use Rattle.apex_calls.specs.Catalogue.{row_of}
 use Rattle.apex_machine.specs.declared.records.Queue.TheVariants as queues
 use Rattle.apex_machine.specs.table.Table.{Table}
@@ -11,7 +12,6 @@ use Rattle.apex_report.specs.Members.{in_form, key_in, members_in, name_in, Memb
 use Rattle.apex_report.specs.Ownerships.{held_ticks}
 use Rattle.apex_report.specs.Refusals.{some_refused}
 use Rattle.apex_report.specs.Terms.{CoreFigures, Form, JobFigures, ObjectFigures, Ownership, ProcessFigures, Queue, Refusals, ServiceFigures}
-use Rattle.apex_report.specs.declared.members.Form.TheVariants.{Line, Json}
 
 -- the end of a row
 abbrev pub end_in : Form → List ℕ
@@ -139,9 +139,9 @@ held_by_in form table ownership = key_in form (codes "held_by") ++ holder_in for
 
 -- the longest ownership: in a line its process stands before the entry that ended it, in JSON behind it
 abbrev pub longest_in : Form → Table → Option Ownership → List ℕ
-longest_in Line table o =
-    members_in Line (held_member o ∷ []) ++ held_by_in Line table o
-    ++ members_in Line (held_at_member o ∷ [])
+longest_in Text table o =
+    members_in Text (held_member o ∷ []) ++ held_by_in Text table o
+    ++ members_in Text (held_at_member o ∷ [])
 longest_in Json table o =
     members_in Json (held_member o ∷ held_at_member o ∷ []) ++ held_by_in Json table o
 

@@ -1,5 +1,6 @@
 -- The terms in which the definitions and proofs of this crate speak: the values of a partition, and
 -- the figures of its report.
+pub use Rattle.apex_json.specs.declared.Form.{Form}
 pub use Rattle.apex_types.specs.declared.calls.Call.{Call}
 pub use Rattle.apex_types.specs.declared.entries.Caller.{Caller}
 pub use Rattle.apex_types.specs.declared.entries.Entry.{Entry}
@@ -12,7 +13,6 @@ pub use Rattle.apex_calls.specs.declared.catalogue.Service.{Service}
 pub use Rattle.apex_report.specs.declared.cores.CoreFigures.{CoreFigures}
 pub use Rattle.apex_report.specs.declared.job_figures.JobFigures.{JobFigures}
 pub use Rattle.apex_report.specs.declared.jobs.Job.{Job}
-pub use Rattle.apex_report.specs.declared.members.Form.{Form}
 pub use Rattle.apex_report.specs.declared.objects.Level.{Level}
 pub use Rattle.apex_report.specs.declared.objects.ObjectFigures.{ObjectFigures}
 pub use Rattle.apex_report.specs.declared.ownerships.Owner.{Owner}

@@ -1,20 +1,20 @@
 -- The lines of a report (this profile).
 use Rattle.std.specs.Prelude.{◌≡◌, ℕ, List, ◌++◌, flat_map}
+use Rattle.apex_json.specs.declared.Form.TheVariants.{Text}
 use Rattle.apex_machine.specs.table.Table.{Table}
 use Rattle.apex_machine.specs.text.Status.{history_line}
 use Rattle.apex_report.specs.Report.{Report, report}
 use Rattle.apex_report.specs.Rows.{core_row, object_row, process_row, service_row}
 use Rattle.apex_report.specs.Terms.{Entry}
-use Rattle.apex_report.specs.declared.members.Form.TheVariants.{Line}
 
 -- the lines of a report: the number of entries, each core, each process, each object, and each service
 -- that refused a call
 abbrev pub lines_of : Table → Report → List ℕ
 lines_of table r =
-    history_line r.entries ++ flat_map (core_row Line) r.cores
-    ++ flat_map (process_row Line table) r.processes
-    ++ flat_map (object_row Line table) r.objects
-    ++ flat_map (service_row Line) r.services
+    history_line r.entries ++ flat_map (core_row Text) r.cores
+    ++ flat_map (process_row Text table) r.processes
+    ++ flat_map (object_row Text table) r.objects
+    ++ flat_map (service_row Text) r.services
 
 -- the report of a history, as a text
 abbrev pub report_text : Table → List Entry → List ℕ

@@ -1,20 +1,20 @@
 //! The report as JSON, written to a writer.
 ghost use Rattle.std.specs.Prelude.{◌≡◌, ◌++◌, List, codes, decimal, flat_map, IfErr, OnOk, OnErr};
 ghost use Rattle.std.specs.Io.KnownBytes.{Appends};
+ghost use Rattle.apex_json.specs.declared.Form.TheVariants.{Json};
 ghost use Rattle.apex_types.specs.declared.entries.Entry.{Entry};
 ghost use Rattle.apex_history.specs.Counted.{inner_of, failures_of, CountsFailure, AppendsBeginning, IsOfWrite};
 ghost use Rattle.apex_report.specs.Json.{array_text, arrays_text, elements_text, json_of, report_json};
 ghost use Rattle.apex_report.specs.Rows.{behind_text};
 ghost use Rattle.apex_report.specs.Texts.{IsReportOf};
-ghost use Rattle.apex_report.specs.declared.members.Form.TheVariants.{Json};
 
 use crate::lines::{Line, put, put_number};
-use crate::members::Form;
 use crate::printing::{print_rows, row_line};
 use crate::reports::Report;
 use crate::rows::Figures;
 use apex_configs::Table;
 use apex_history::{Counted, Sink};
+use apex_json::Form;
 use std::io::{Result, Write};
 
 /// Writes the objects of figures, of which there is a first.

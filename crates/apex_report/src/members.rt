@@ -7,28 +7,17 @@ ghost use Rattle.apex_report.specs.declared.members.TheConstants.{MOST_STRING};
 ghost use Rattle.apex_report.specs.Members.{in_form, key_in, name_in, room_of, text_of, value_in};
 
 use crate::lines::{Line, put, put_bytes, put_long_number};
-use apex_json::{MOST_ESCAPE, add_json};
+use apex_json::{Form, MOST_ESCAPE, add_json};
 use apex_types::MOST_NAME;
 
-/// The form of a report.
-#[derive(Clone, Copy)]
-pub(crate) enum Form {
-    /// A line for each row.
-    Line,
-    /// A JSON object for each row.
-    Json,
-}
-
-impl Form {
-    /// The text that belongs to the form.
-    pub(crate) fn pick(self, line: &'static str, json: &'static str) -> &'static str
-        ensures text { result.now ≡ in_form self line.now json.now }
-        ensures short { length result.now ≤ length line.now + length json.now }
-    {
-        match self {
-            Form::Line => line,
-            Form::Json => json,
-        }
+/// The one of the two that belongs to the form.
+pub(crate) fn pick(form: Form, text: &'static str, json: &'static str) -> &'static str
+    ensures text { result.now ≡ in_form form text.now json.now }
+    ensures short { length result.now ≤ length text.now + length json.now }
+{
+    match form {
+        Form::Text => text,
+        Form::Json => json,
     }
 }
 
@@ -48,7 +37,7 @@ pub(crate) fn put_name(line: &mut Line, form: Form, name: &[u8])
     ensures short { array_vec_len line.new ≤ array_vec_len line.old + MOST_STRING }
 {
     match form {
-        Form::Line => put_bytes(line, name),
+        Form::Text => put_bytes(line, name),
         Form::Json => {
             put(line, "\"");
             add_json(line, name);
@@ -64,9 +53,9 @@ pub(crate) fn put_key(line: &mut Line, form: Form, key: &str)
     ensures text { line.new.items ≡ line.old.items ++ key_in form key.now }
     ensures short { array_vec_len line.new ≤ array_vec_len line.old + length key.now + 6 }
 {
-    put(line, form.pick(" ", ",\""));
+    put(line, pick(form, " ", ",\""));
     put(line, key);
-    put(line, form.pick("=", "\":"));
+    put(line, pick(form, "=", "\":"));
 }
 
 /// Adds a number, or the sign for none.
@@ -77,7 +66,7 @@ fn put_value(line: &mut Line, form: Form, value: Option<u64>)
 {
     match value {
         Some(number) => put_long_number(line, number),
-        None => put(line, form.pick("-", "null")),
+        None => put(line, pick(form, "-", "null")),
     }
 }
 

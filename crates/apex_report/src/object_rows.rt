@@ -9,11 +9,12 @@ ghost use Rattle.apex_report.specs.declared.members.TheConstants.{MOST_STRING};
 ghost use Rattle.apex_report.specs.declared.rows.TheConstants.{FRONT};
 
 use crate::lines::{Line, put};
-use crate::members::{Form, Member, put_key, put_members, put_name};
+use crate::members::{Member, pick, put_key, put_members, put_name};
 use crate::objects::{Level, ObjectFigures};
 use crate::ownerships::Ownership;
 use crate::rows::Figures;
 use apex_configs::Table;
+use apex_json::Form;
 use apex_machine::Queue;
 use apex_names::{object_name, process_name};
 
@@ -39,9 +40,9 @@ fn put_head(line: &mut Line, form: Form, table: &Table, object: &Queue)
     ensures text { line.new.items ≡ line.old.items ++ object_head form table.now object.now }
     ensures short { array_vec_len line.new ≤ MOST_STRING + 40 }
 {
-    put(line, form.pick("", "{\"kind\":\""));
+    put(line, pick(form, "", "{\"kind\":\""));
     put(line, kind_name(object));
-    put(line, form.pick(" ", "\",\"object\":"));
+    put(line, pick(form, " ", "\",\"object\":"));
     put_name(line, form, object_name(table, object));
 }
 
@@ -131,7 +132,7 @@ fn put_holder(line: &mut Line, form: Form, table: &Table, ownership: &Option<Own
 {
     match ownership {
         Some(ownership) => put_name(line, form, process_name(table, ownership.process)),
-        None => put(line, form.pick("-", "null")),
+        None => put(line, pick(form, "-", "null")),
     }
 }
 
@@ -155,7 +156,7 @@ fn put_longest(line: &mut Line, form: Form, table: &Table, ownership: &Option<Ow
     let held = Member("held", held_of(ownership));
     let held_at = Member("held_at", end_of(ownership));
     match form {
-        Form::Line => {
+        Form::Text => {
             put_members(line, form, &[held]);
             put_held_by(line, form, table, ownership);
             put_members(line, form, &[held_at]);
@@ -188,6 +189,6 @@ impl Figures for ObjectFigures {
         put_content(line, form, self);
         put_queue(line, form, self);
         put_ownership(line, form, table, self);
-        put(line, form.pick("\n", "}"));
+        put(line, pick(form, "\n", "}"));
     }
 }

@@ -9,11 +9,12 @@ ghost use Rattle.apex_report.specs.Texts.{lines_of, report_text, IsOfTable, IsRe
 ghost use Rattle.apex_report.specs.declared.rows.TheConstants.{FRONT};
 
 use crate::lines::{Line, put, put_number};
-use crate::members::Form;
+use crate::members::pick;
 use crate::reports::Report;
 use crate::rows::Figures;
 use apex_configs::Table;
 use apex_history::{Counted, Sink};
+use apex_json::Form;
 use std::io::{Result, Write};
 
 /// The number of entries, which comes first.
@@ -55,7 +56,7 @@ pub(crate) fn print_rows<W: Sink, F: Figures>(
     ensures counted { CountsFailure result (failures_of writer.old) (failures_of writer.new) }
     ensures failed { IfErr result (IsOfWrite W.accepts (inner_of writer.new)) }
 {
-    let front = form.pick("", ",\n");
+    let front = pick(form, "", ",\n");
     for figures in rows {
         writer.write_all(row_line(table, figures, form, front).as_slice())?;
     }
@@ -75,10 +76,10 @@ fn print_lines<W: Sink>(table: &Table, report: &Report, writer: &mut Counted<W>)
     ensures failed { IfErr result (IsOfWrite W.accepts (inner_of writer.new)) }
 {
     writer.write_all(history_line(report.entries()).as_slice())?;
-    print_rows(table, report.cores(), Form::Line, writer)?;
-    print_rows(table, report.processes(), Form::Line, writer)?;
-    print_rows(table, report.objects(), Form::Line, writer)?;
-    print_rows(table, report.services(), Form::Line, writer)
+    print_rows(table, report.cores(), Form::Text, writer)?;
+    print_rows(table, report.processes(), Form::Text, writer)?;
+    print_rows(table, report.objects(), Form::Text, writer)?;
+    print_rows(table, report.services(), Form::Text, writer)
 }
 
 /// Writes the report of a history of the table's partition: the lines of the number of entries, of

@@ -1,23 +1,24 @@
 //! The rows of processes, cores and services, each put together from its parts.
 ghost use Rattle.std.specs.Prelude.{◌≡◌, ◌+◌, ◌≤◌, ◌++◌, ℕ, List, option_map};
 ghost use Rattle.arrayvec.specs.ArrayVec.{array_vec_len};
+ghost use Rattle.apex_json.specs.declared.Form as forms;
 ghost use Rattle.apex_machine.specs.table.Table as tables;
 ghost use Rattle.apex_report.specs.Jobs.{response};
 ghost use Rattle.apex_report.specs.Members.{members_in};
 ghost use Rattle.apex_report.specs.Rows.{core_members, core_row, counted_row, is_listed, process_members, process_row, refusal_members, service_row};
-ghost use Rattle.apex_report.specs.declared.members.Form as forms;
 ghost use Rattle.apex_report.specs.declared.lines.TheConstants.{LINE_ROOM};
 ghost use Rattle.apex_report.specs.declared.rows.TheConstants.{FRONT};
 
 use crate::cores::CoreFigures;
 use crate::jobs::Job;
 use crate::lines::{Line, put, put_number};
-use crate::members::{Form, Member, put_members, put_name};
+use crate::members::{Member, pick, put_members, put_name};
 use crate::processes::ProcessFigures;
 use crate::refusals::Refusals;
 use crate::services::ServiceFigures;
 use apex_calls::row_of;
 use apex_configs::Table;
+use apex_json::Form;
 use apex_names::process_name;
 
 /// The most bytes in a line before a row.
@@ -106,11 +107,11 @@ impl Figures for ProcessFigures {
 
     #[tactic(auto, using(std::proofs::Common::append_assoc))]
     fn put_row(&self, line: &mut Line, form: Form, table: &Table) {
-        put(line, form.pick("process ", "{\"process\":"));
+        put(line, pick(form, "process ", "{\"process\":"));
         put_name(line, form, process_name(table, self.process));
         put_process_members(line, form, self);
         put_refusals(line, form, &self.refusals);
-        put(line, form.pick("\n", "}"));
+        put(line, pick(form, "\n", "}"));
     }
 }
 
@@ -142,10 +143,10 @@ impl Figures for CoreFigures {
 
     #[tactic(auto, using(std::proofs::Common::append_assoc))]
     fn put_row(&self, line: &mut Line, form: Form, _table: &Table) {
-        put(line, form.pick("core ", "{\"core\":"));
+        put(line, pick(form, "core ", "{\"core\":"));
         put_number(line, u32::from(self.core.number()));
         put_core_members(line, form, self);
-        put(line, form.pick("\n", "}"));
+        put(line, pick(form, "\n", "}"));
     }
 }
 
@@ -155,11 +156,11 @@ fn put_service(line: &mut Line, form: Form, figures: &ServiceFigures)
     requires { array_vec_len line.old ≤ FRONT }
     ensures { line.new.items ≡ line.old.items ++ counted_row form figures.now }
 {
-    put(line, form.pick("service ", "{\"service\":\""));
+    put(line, pick(form, "service ", "{\"service\":\""));
     put(line, row_of(figures.service).word);
-    put(line, form.pick("", "\""));
+    put(line, pick(form, "", "\""));
     put_refusals(line, form, &figures.refusals);
-    put(line, form.pick("\n", "}"));
+    put(line, pick(form, "\n", "}"));
 }
 
 /// JSON has each service, and lines have those that refused a call.
@@ -167,7 +168,7 @@ fn is_listed(form: Form, figures: &ServiceFigures) -> bool
     ensures { result ≡ is_listed form figures.now }
 {
     match form {
-        Form::Line => figures.refusals.are_some(),
+        Form::Text => figures.refusals.are_some(),
         Form::Json => true,
     }
 }

@@ -1,6 +1,6 @@
 //! How a run is given, and how it is shown.
 use crate::windows::Window;
-use apex_objects::Form;
+use apex_json::Form;
 use apex_pace::Pace;
 use apex_scales::{Axis, TickLength};
 use apex_schedules::Item;

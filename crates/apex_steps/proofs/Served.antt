@@ -1,6 +1,7 @@
 -- The ways in which a session ends.
 use Rattle.std.proofs.Common.{◌≡◌, ℕ, List, [], ◌++◌, Option, Result, Ok, Err, refl, subst}
 use Rattle.std.specs.Io.KnownBytes.{Consumes, Keeps}
+use Rattle.apex_json.specs.declared.Form.{Form}
 use Rattle.apex_machine.specs.table.Table.{Table}
 use Rattle.apex_table.specs.Reading.{table_of}
 use Rattle.apex_history.specs.Ports.{IsLeft, Ports, ports}
@@ -11,7 +12,6 @@ use Rattle.apex_check.specs.Faults.{CountsRead as CountsLeading, IsFaultOf}
 use Rattle.apex_check.specs.Texts.{BeginsWithTable, IsTableText, separator}
 use Rattle.apex_incoming.specs.Lines.{ended}
 use Rattle.apex_incoming.proofs.Coming.{ahead_more}
-use Rattle.apex_objects.specs.declared.Form.{Form}
 use Rattle.apex_steps.specs.Endings.{Converses, IsCutOff, Serves, answered, cut_off, no_memory, refused, unread}
 use Rattle.apex_steps.specs.Faults.{fault_of_leading}
 use Rattle.apex_steps.specs.Sessions.{opening_session}

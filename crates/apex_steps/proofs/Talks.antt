@@ -3,13 +3,13 @@ use Rattle.std.proofs.Common.{◌≡◌, ◌∙◌, ℕ, true, false, Option, Ok
 use Rattle.std.specs.Prelude.{if◌then◌else◌}
 use Rattle.std.proofs.KnownBytes.{Appends-nil, Appends-trans, Consumes-nil, Consumes-trans}
 use Rattle.std.specs.Io.KnownBytes.{Appends, Consumes}
+use Rattle.apex_json.specs.declared.Form.{Form}
 use Rattle.apex_history.specs.Counted.{AppendsBeginning, one_more}
 use Rattle.apex_history.specs.Ports.{NoneFails, Ports}
 use Rattle.apex_history.proofs.Passing.{beginning_longer}
 use Rattle.apex_incoming.specs.Ahead.{IsAhead}
 use Rattle.apex_incoming.specs.Lines.{ended}
 use Rattle.apex_incoming.proofs.Coming.{ahead_more, or_nothing}
-use Rattle.apex_objects.specs.declared.Form.{Form}
 use Rattle.apex_steps.specs.Answers.{unended}
 use Rattle.apex_steps.specs.Objects.{answer_text}
 use Rattle.apex_steps.specs.Conversations.{CountsReading, Hears, a_line, no_line, said}

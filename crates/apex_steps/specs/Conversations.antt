@@ -1,11 +1,11 @@
 -- A conversation: the lines of a text, what is said on them, and what is heard next.
 use Rattle.std.specs.Prelude.{◌≡◌, ◌<◌, ◌≤◌, ℕ, Bool, true, false, List, [], ◌∷◌, ◌++◌, length, Option, Some, None, Result, Ok, Err, MatchResult, if◌then◌else◌}
 use Rattle.std.specs.Io.KnownBytes.{Consumes}
+use Rattle.apex_json.specs.declared.Form.{Form}
 use Rattle.apex_incoming.specs.Ahead.{IsAhead}
 use Rattle.apex_incoming.specs.Lines.{IsOneLine, ended}
 use Rattle.apex_history.specs.Counted.{one_more}
 use Rattle.apex_history.specs.Words.{parts}
-use Rattle.apex_objects.specs.declared.Form.{Form}
 use Rattle.apex_steps.specs.Answers.{answer, unended}
 use Rattle.apex_steps.specs.Objects.{answer_text}
 use Rattle.apex_steps.specs.Sessions.{Session}

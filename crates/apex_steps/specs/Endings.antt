@@ -1,13 +1,13 @@
 -- The ends of a conversation, and of a whole session.
 use Rattle.std.specs.Prelude.{◌≡◌, ℕ, List, Result, Ok, Err}
 use Rattle.std.specs.Io.KnownBytes.{Appends, Keeps}
+use Rattle.apex_json.specs.declared.Form.{Form}
 use Rattle.apex_machine.specs.table.Table.{Table}
 use Rattle.apex_history.specs.Counted.{AppendsBeginning}
 use Rattle.apex_history.specs.Ports.{Ports, NoneFails, AReadFails, AWriteFails, IsLeft}
 use Rattle.apex_check.specs.Texts.{BeginsWithTable}
 use Rattle.apex_check.specs.Verdicts.{IsAtFault}
 use Rattle.apex_check.specs.declared.CheckFault.{CheckFault}
-use Rattle.apex_objects.specs.declared.Form.{Form}
 use Rattle.apex_steps.specs.Conversations.{said}
 use Rattle.apex_steps.specs.Faults.{fault_of_leading}
 use Rattle.apex_steps.specs.Sessions.{Session, opening_session}

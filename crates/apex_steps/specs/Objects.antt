@@ -1,5 +1,7 @@
 -- The text of an answer in either form: its lines, or its objects of JSON, a line each.
 use Rattle.std.specs.Prelude.{ℕ, zero, suc, Bool, true, List, [], ◌∷◌, ◌++◌, length, drop, Option, codes, if◌then◌else◌}
+use Rattle.apex_json.specs.declared.Form.{Form}
+use Rattle.apex_json.specs.declared.Form.TheVariants as forms
 use Rattle.apex_machine.specs.Machine.{Machine, situation_of}
 use Rattle.apex_machine.specs.processes.Dues.{next_instant}
 use Rattle.apex_machine.specs.processes.Running.{chosen}
@@ -7,8 +9,6 @@ use Rattle.apex_machine.specs.table.Table.{Table}
 use Rattle.apex_objects.specs.Answers.{count_object, fault_object, front_object, next_object}
 use Rattle.apex_objects.specs.Entries.{objects_of}
 use Rattle.apex_objects.specs.Listing.{listing_objects}
-use Rattle.apex_objects.specs.declared.Form.{Form}
-use Rattle.apex_objects.specs.declared.Form.TheVariants as forms
 use Rattle.apex_steps.specs.Answers.{has_something_to_do, reason_text, text_of}
 use Rattle.apex_steps.specs.Sessions.{Session}
 use Rattle.apex_steps.specs.declared.answers.Answered.{Answered}

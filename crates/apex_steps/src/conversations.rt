@@ -18,7 +18,7 @@ use crate::sessions::Session;
 use apex_check::leading_table;
 use apex_history::{Counted, Sink, Source};
 use apex_incoming::{Next, Pending};
-use apex_objects::Form;
+use apex_json::Form;
 use std::alloc::{AllocError, Global};
 use std::io;
 

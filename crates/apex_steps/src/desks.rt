@@ -11,7 +11,7 @@ use crate::line_desks::LineDesk;
 use crate::object_desks::ObjectDesk;
 use crate::sessions::Session;
 use apex_history::{Counted, Sink};
-use apex_objects::Form;
+use apex_json::Form;
 use std::alloc::{AllocError, Global};
 use std::io::Result;
 use std::result::Result as Fallible;

@@ -1,9 +1,9 @@
 -- How a table is linted.
 use Rattle.std.specs.Prelude.{Bool, true, false, List, [], map, Option, Some, None, codes, option_map, unwrap_or}
 use Rattle.clap.specs.Words.{Text}
+use Rattle.apex_json.specs.declared.Form.{Form}
+use Rattle.apex_json.specs.declared.Form.TheVariants as forms
 use Rattle.apex_warnings.specs.WarningWords.{allowed_in}
-use Rattle.apex_lint.specs.declared.Form.{Form}
-use Rattle.apex_lint.specs.declared.Form.TheVariants.{Json, Lines}
 use Rattle.apex_tasks.specs.Words.{LintSaid}
 use Rattle.apex_tasks.specs.declared.lints.Lint.{Lint as LintIn}
 
@@ -15,8 +15,8 @@ pub record Lint : Type 0 where
   pub allowed : List Text
 
 abbrev pub form_of : Bool → Form
-form_of true = Json
-form_of false = Lines
+form_of true = forms.Json
+form_of false = forms.Text
 
 -- the words of the warnings that are left out; none if one of them is no warning's word
 abbrev pub allowed_of : Option Text → Option (List Text)

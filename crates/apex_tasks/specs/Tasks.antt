@@ -1,13 +1,13 @@
 -- What the program is asked to do.
 use Rattle.std.specs.Prelude.{◌≡◌, ◌⊎◌, ℕ, Bool, List, Option, Some, None, Result, Ok, Err, length, nat_le, if◌then◌else◌, option_and_then, option_map}
 use Rattle.clap.specs.Words.{Text}
+use Rattle.apex_json.specs.declared.Form.{Form}
 use Rattle.apex_types.specs.declared.limits.TheConstants.{MOST_ENTRIES}
 use Rattle.apex_console.specs.declared.CliFault.TheVariants.{Memory, Usage}
 use Rattle.apex_pace.specs.Laws.{IsPace}
 use Rattle.apex_schedules.specs.declared.Item.{Item}
 use Rattle.apex_schedules.specs.Groups.{grouped_items_of}
 use Rattle.apex_schedules.specs.Schedule.{positive_of}
-use Rattle.apex_objects.specs.declared.Form.{Form}
 use Rattle.apex_scales.specs.declared.Axis.{Axis}
 use Rattle.apex_showings.specs.Schedules.{IsBadIn}
 use Rattle.apex_showings.specs.Showings.{Chart, Showing, Source, View, drawn, history, listed, paced, schedule, schedule_read, showing_said, showing_with, source_said, svg, trace}

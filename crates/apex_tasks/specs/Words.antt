@@ -2,9 +2,9 @@
 use Rattle.std.specs.Prelude.{Bool, List, [], ◌∷◌, Option, Some, None, codes, if◌then◌else◌, option_and_then, option_map}
 use Rattle.std.specs.Str.{bytes_eq}
 use Rattle.clap.specs.Words.{App, Row, Text, first_of, new_app, with_subcommand}
+use Rattle.apex_json.specs.declared.Form.{Form}
+use Rattle.apex_json.specs.declared.Form.TheVariants as forms
 use Rattle.apex_console.specs.Words.{flag_rule, option_rule, program_alone, request_by, says_given, with_rules}
-use Rattle.apex_objects.specs.declared.Form.{Form}
-use Rattle.apex_objects.specs.declared.Form.TheVariants as forms
 use Rattle.apex_tasks.specs.declared.words.LintWords.{LintWords}
 use Rattle.apex_showings.specs.declared.Listing.{Listing}
 use Rattle.apex_showings.specs.declared.Listing.TheVariants.{Lines, Status, Report, Schedule}

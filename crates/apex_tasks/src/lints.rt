@@ -4,7 +4,7 @@ ghost use Rattle.apex_tasks.specs.Lints.{allowed_of, file_of, form_of, lint_aske
 ghost use Rattle.apex_tasks.specs.Words.{lint_words_said};
 
 use crate::words::LintWords;
-use apex_lint::Form;
+use apex_json::Form;
 use apex_warnings::allowed_in;
 use std::alloc::{AllocError, Global};
 
@@ -22,7 +22,7 @@ pub struct Lint<'a> {
 fn form_of(json: bool) -> Form
     ensures { result ≡ form_of json }
 {
-    if json { Form::Json } else { Form::Lines }
+    if json { Form::Json } else { Form::Text }
 }
 
 /// The name under which the table is reported: `-` if none is given.

@@ -13,7 +13,7 @@ use crate::questions::search_asked;
 use crate::windows::{axis_given, window_given};
 use crate::words::{Request, SourceWords, ViewWords, request_in};
 use apex_console::CliFault;
-use apex_objects::Form;
+use apex_json::Form;
 use apex_questions::Search;
 use apex_schedules::read_positive;
 use apex_showings::{Chart, Picture, RunSource, Showing, View, read_items};

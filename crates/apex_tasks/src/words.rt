@@ -9,7 +9,7 @@ ghost use Rattle.apex_tasks.specs.Words.{check_command, comments_in, dump_in, fo
 use apex_console::{
     Argument, CliFault, bare_line, has_flag, matches_of, with_arguments, with_command,
 };
-use apex_objects::Form;
+use apex_json::Form;
 use apex_showings::Listing;
 use clap::{ArgMatches, Command};
 use std::alloc::{AllocError, Global};

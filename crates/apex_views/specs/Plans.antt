@@ -1,6 +1,8 @@
 -- The text that shows a run.
 use Rattle.std.specs.Prelude.{◌≡◌, ℕ, ◌<◌, ◌≤◌, ◌++◌, [], Bool, true, false, codes, length, List, Option, Some, None, Ok, All}
 use Rattle.std.specs.Io.KnownBytes.{Appends}
+use Rattle.apex_json.specs.declared.Form.{Form}
+use Rattle.apex_json.specs.declared.Form.TheVariants as forms
 use Rattle.apex_machine.specs.Machine.{Machine, events_of, opening, run}
 use Rattle.apex_machine.specs.Events.{IsWithin}
 use Rattle.apex_machine.specs.table.Table as tables
@@ -12,8 +14,6 @@ use Rattle.apex_history.specs.Counted.{AppendsBeginning}
 use Rattle.apex_console.specs.Reports.{fault_of_events}
 use Rattle.apex_objects.specs.Entries.{objects_of}
 use Rattle.apex_objects.specs.Listing.{listing_objects}
-use Rattle.apex_objects.specs.declared.Form.{Form}
-use Rattle.apex_objects.specs.declared.Form.TheVariants as forms
 use Rattle.apex_report.specs.Json.{report_json}
 use Rattle.apex_report.specs.Texts.{report_text}
 use Rattle.apex_schedules.specs.Printing.{schedule_text}

@@ -1,10 +1,10 @@
 //! The listings of a run, written from the kernel that made it.
 ghost use Rattle.std.specs.Prelude.{◌≡◌, ◌++◌, List, Option, codes, OnErr, OnOk};
+ghost use Rattle.apex_json.specs.declared.Form.TheVariants.{Text, Json};
 ghost use Rattle.apex_history.specs.Counted.{inner_of, failures_of, CountsFailure};
 ghost use Rattle.apex_console.specs.Faults.{fault_in};
 ghost use Rattle.apex_console.specs.Streams.{HasWritten, HasWrittenSome};
 ghost use Rattle.apex_console.specs.declared.CliFault.{CliFault as CliFaultOf};
-ghost use Rattle.apex_objects.specs.declared.Form.TheVariants.{Text, Json};
 ghost use Rattle.apex_report.specs.Texts.{IsOfTable, IsReportOf};
 ghost use Rattle.apex_schedules.specs.Printing.{schedule_text};
 ghost use Rattle.apex_types.specs.declared.entries.Entry.{Entry};
@@ -18,7 +18,8 @@ use apex_configs::Table;
 use apex_console::{CliFault, Run};
 use apex_dispatch::{Kernel, events_in};
 use apex_history::{Counted, Page, Sink};
-use apex_objects::{Form, ObjectLines, print_history_objects, print_listing_objects};
+use apex_json::Form;
+use apex_objects::{ObjectLines, print_history_objects, print_listing_objects};
 use apex_process::QueueStore;
 use apex_report::{Report, print_report, print_report_json, report_of};
 use apex_schedules::print_schedule;

@@ -1,7 +1,7 @@
 use Rattle.std.proofs.Common.{◌≡◌, ◌++◌, ◌∙◌, ◌∷◌, [], ℕ, List, ap, append_assoc}
+use Rattle.apex_json.specs.declared.Form.TheVariants.{Json}
 use Rattle.apex_report.specs.Members.{members_in}
 use Rattle.apex_report.specs.Rows.{held_at_member, held_by_in, held_member}
-use Rattle.apex_report.specs.declared.members.Form.TheVariants.{Json}
 use Rattle.apex_report.proofs.object_rows.put_longest.Goals as goal
 
 pub returns-in-Json-clause-text : goal.returns-in-Json-clause-text

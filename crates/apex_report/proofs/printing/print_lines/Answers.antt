@@ -1,11 +1,11 @@
 use Rattle.std.proofs.Common.{◌≡◌, ◌++◌, ◌∙◌, ap, flat_map}
 use Rattle.std.proofs.KnownBytes.{Appends-trans}
 use Rattle.std.proofs.lemmas.Result.{on_err_weaker, on_ok_weaker}
+use Rattle.apex_json.specs.declared.Form.TheVariants.{Text}
 use Rattle.apex_machine.specs.text.Status.{history_line}
 use Rattle.apex_history.proofs.Outcomes.{OnErr-always}
 use Rattle.apex_history.proofs.Passing.{beginning_longer}
 use Rattle.apex_report.specs.Rows.{core_row, object_row, process_row, service_row}
-use Rattle.apex_report.specs.declared.members.Form.TheVariants.{Line}
 use Rattle.apex_report.proofs.Printed.{beginning_behind}
 use Rattle.apex_report.proofs.printing.print_lines.Goals as goal
 
@@ -13,10 +13,10 @@ pub returns-in_err-write_all-clause-err : goal.returns-in_err-write_all-clause-e
 returns-in_err-write_all-clause-err g c =
     let r = c.args.report.now in
     let first = history_line r.entries in
-    let second = flat_map (core_row Line) r.cores in
-    let third = flat_map (process_row Line c.args.table.now) r.processes in
-    let fourth = flat_map (object_row Line c.args.table.now) r.objects in
-    let fifth = flat_map (service_row Line) r.services in
+    let second = flat_map (core_row Text) r.cores in
+    let third = flat_map (process_row Text c.args.table.now) r.processes in
+    let fourth = flat_map (object_row Text c.args.table.now) r.objects in
+    let fifth = flat_map (service_row Text) r.services in
     let text : c.as_slice.result.now ≡ first = c.as_slice.ensures.value ∙ c.history_line.ensures ∙ ap history_line c.entries.ensures.value in
     OnErr-always c.from_residual.result
     (beginning_longer _ _ (first ++ second ++ third ++ fourth) fifth
@@ -28,10 +28,10 @@ pub returns-in_err-print_rows-clause-err : goal.returns-in_err-print_rows-clause
 returns-in_err-print_rows-clause-err g c =
     let r = c.args.report.now in
     let first = history_line r.entries in
-    let second = flat_map (core_row Line) r.cores in
-    let third = flat_map (process_row Line c.args.table.now) r.processes in
-    let fourth = flat_map (object_row Line c.args.table.now) r.objects in
-    let fifth = flat_map (service_row Line) r.services in
+    let second = flat_map (core_row Text) r.cores in
+    let third = flat_map (process_row Text c.args.table.now) r.processes in
+    let fourth = flat_map (object_row Text c.args.table.now) r.objects in
+    let fifth = flat_map (service_row Text) r.services in
     let text : c.as_slice.result.now ≡ first = c.as_slice.ensures.value ∙ c.history_line.ensures ∙ ap history_line c.entries.ensures.value in
     OnErr-always c.from_residual-in_err-print_rows.result
     (beginning_longer _ _ (first ++ second ++ third ++ fourth) fifth
@@ -44,10 +44,10 @@ pub returns-in_err-print_rows-2-clause-err : goal.returns-in_err-print_rows-2-cl
 returns-in_err-print_rows-2-clause-err g c =
     let r = c.args.report.now in
     let first = history_line r.entries in
-    let second = flat_map (core_row Line) r.cores in
-    let third = flat_map (process_row Line c.args.table.now) r.processes in
-    let fourth = flat_map (object_row Line c.args.table.now) r.objects in
-    let fifth = flat_map (service_row Line) r.services in
+    let second = flat_map (core_row Text) r.cores in
+    let third = flat_map (process_row Text c.args.table.now) r.processes in
+    let fourth = flat_map (object_row Text c.args.table.now) r.objects in
+    let fifth = flat_map (service_row Text) r.services in
     let text : c.as_slice.result.now ≡ first = c.as_slice.ensures.value ∙ c.history_line.ensures ∙ ap history_line c.entries.ensures.value in
     OnErr-always c.from_residual-in_err-print_rows-2.result
     (beginning_longer _ _ (first ++ second ++ third ++ fourth) fifth
@@ -60,10 +60,10 @@ pub returns-in_err-print_rows-3-clause-err : goal.returns-in_err-print_rows-3-cl
 returns-in_err-print_rows-3-clause-err g c =
     let r = c.args.report.now in
     let first = history_line r.entries in
-    let second = flat_map (core_row Line) r.cores in
-    let third = flat_map (process_row Line c.args.table.now) r.processes in
-    let fourth = flat_map (object_row Line c.args.table.now) r.objects in
-    let fifth = flat_map (service_row Line) r.services in
+    let second = flat_map (core_row Text) r.cores in
+    let third = flat_map (process_row Text c.args.table.now) r.processes in
+    let fourth = flat_map (object_row Text c.args.table.now) r.objects in
+    let fifth = flat_map (service_row Text) r.services in
     let text : c.as_slice.result.now ≡ first = c.as_slice.ensures.value ∙ c.history_line.ensures ∙ ap history_line c.entries.ensures.value in
     OnErr-always c.from_residual-in_err-print_rows-3.result
     (beginning_longer _ _ (first ++ second ++ third ++ fourth) fifth
@@ -77,10 +77,10 @@ pub returns-clause-ok : goal.returns-clause-ok
 returns-clause-ok g c =
     let r = c.args.report.now in
     let first = history_line r.entries in
-    let second = flat_map (core_row Line) r.cores in
-    let third = flat_map (process_row Line c.args.table.now) r.processes in
-    let fourth = flat_map (object_row Line c.args.table.now) r.objects in
-    let fifth = flat_map (service_row Line) r.services in
+    let second = flat_map (core_row Text) r.cores in
+    let third = flat_map (process_row Text c.args.table.now) r.processes in
+    let fourth = flat_map (object_row Text c.args.table.now) r.objects in
+    let fifth = flat_map (service_row Text) r.services in
     let text : c.as_slice.result.now ≡ first = c.as_slice.ensures.value ∙ c.history_line.ensures ∙ ap history_line c.entries.ensures.value in
     on_ok_weaker c.print_rows-4.result
     (λ h. Appends-trans _ _ _ (first ++ second ++ third ++ fourth) fifth
@@ -96,10 +96,10 @@ pub returns-clause-err : goal.returns-clause-err
 returns-clause-err g c =
     let r = c.args.report.now in
     let first = history_line r.entries in
-    let second = flat_map (core_row Line) r.cores in
-    let third = flat_map (process_row Line c.args.table.now) r.processes in
-    let fourth = flat_map (object_row Line c.args.table.now) r.objects in
-    let fifth = flat_map (service_row Line) r.services in
+    let second = flat_map (core_row Text) r.cores in
+    let third = flat_map (process_row Text c.args.table.now) r.processes in
+    let fourth = flat_map (object_row Text c.args.table.now) r.objects in
+    let fifth = flat_map (service_row Text) r.services in
     let text : c.as_slice.result.now ≡ first = c.as_slice.ensures.value ∙ c.history_line.ensures ∙ ap history_line c.entries.ensures.value in
     on_err_weaker c.print_rows-4.result
     (λ h. beginning_behind _ _ _ (first ++ second ++ third ++ fourth) fifth

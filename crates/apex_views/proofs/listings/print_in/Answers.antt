@@ -1,8 +1,8 @@
 -- The text is that of the form.
 use Rattle.std.proofs.Common.{ℕ, List, ap, subst, sym}
 use Rattle.std.specs.Prelude.{OnErr, OnOk}
+use Rattle.apex_json.specs.declared.Form.{Form}
 use Rattle.apex_console.specs.Streams.{HasWritten, HasWrittenSome}
-use Rattle.apex_objects.specs.declared.Form.{Form}
 use Rattle.apex_views.specs.Plans.{report_in}
 use Rattle.apex_views.proofs.listings.print_in.Goals as goal
 

@@ -1,4 +1,4 @@
-use Rattle.apex_objects.specs.declared.Form.TheVariants.{Text}
+use Rattle.apex_json.specs.declared.Form.TheVariants.{Text}
 use Rattle.apex_showings.specs.declared.Listing.TheVariants.{Lines}
 use Rattle.apex_views.proofs.ListingEndings.{lists_prefix, lists_whole}
 use Rattle.apex_views.proofs.listings.print_lines.Goals as goal

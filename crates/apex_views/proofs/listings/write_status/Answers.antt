@@ -1,6 +1,6 @@
 use Rattle.std.proofs.KnownBytes.{Keeps-refl}
 use Rattle.std.proofs.lemmas.Result.{err_from_is_err_and}
-use Rattle.apex_objects.specs.declared.Form.TheVariants.{Text}
+use Rattle.apex_json.specs.declared.Form.TheVariants.{Text}
 use Rattle.apex_views.specs.Shows.{unbegun}
 use Rattle.apex_showings.specs.declared.Listing.TheVariants.{Status}
 use Rattle.apex_views.proofs.ListingEndings.{lists_prefix, lists_whole}

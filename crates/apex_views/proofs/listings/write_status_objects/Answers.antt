@@ -1,4 +1,4 @@
-use Rattle.apex_objects.specs.declared.Form.TheVariants.{Json}
+use Rattle.apex_json.specs.declared.Form.TheVariants.{Json}
 use Rattle.apex_showings.specs.declared.Listing.TheVariants.{Status}
 use Rattle.apex_views.proofs.ListingEndings.{lists_prefix, lists_whole}
 use Rattle.apex_views.proofs.listings.write_status_objects.Goals as goal

@@ -5,6 +5,6 @@
 pub enum Form {
     /// As lines of text.
     Text,
-    /// As objects of JSON.
+    /// As JSON.
     Json,
 }
