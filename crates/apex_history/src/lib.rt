@@ -25,7 +25,7 @@ pub use devices::FailAt;
 pub use events::{LineFault, read_line};
 pub use histories::Log;
 pub use lent::Entries;
-pub use pages::Page;
+pub use pages::{Gathered, Page};
 pub use printing::{print_entry, print_history};
 pub use puts::{DIGIT_PAIRS, LINES_ROOM, Lines, put_call_of, put_line, put_reply_of};
 pub use reading::{ReadFault, read_all};

@@ -1,10 +1,8 @@
-//! A page of text, in which lines are gathered before they are written.
+//! Text that is gathered before it is written.
 ghost use Rattle.std.specs.Prelude.{◌≡◌, ◌+◌, ◌≤◌, [], ◌++◌, length, IfErr, IfOk, OnOk, OnErr};
 ghost use Rattle.std.specs.Io.KnownBytes.{Appends};
-ghost use Rattle.apex_history.specs.declared.puts.TheConstants.{LINES_ROOM};
 ghost use Rattle.apex_history.specs.Counted.{inner_of, failures_of, CountsFailure, AppendsBeginning, IsOfWrite};
 ghost use Rattle.apex_history.specs.Page.{Passes};
-ghost use Rattle.apex_history.specs.declared.pages.TheConstants.{PAGE_ROOM};
 
 use crate::counting::Counted;
 use crate::puts::LINES_ROOM;
@@ -17,33 +15,34 @@ use std::marker::Model;
 /// The most bytes that a page holds.
 const PAGE_ROOM: usize = 8 * LINES_ROOM;
 
-/// A buffer of text that is made beforehand. Lines are gathered in it, so that many of them are
-/// written at once.
+/// A page of the lines of a history or of a status.
+pub type Page = Gathered<PAGE_ROOM>;
+
+/// A buffer of text that is made beforehand, for ROOM bytes. Texts are gathered in it, so that many
+/// of them are written at once.
 #[derive(Drop)]
-pub struct Page {
+pub struct Gathered<const ROOM: usize> {
     text: Vec<u8>,
 }
 
-impl Model for Page {
+impl<const ROOM: usize> Model for Gathered<ROOM> {
     ghost use Rattle.std.specs.Prelude.{ℕ, List, ◌≤◌, length, vec_capacity};
-    ghost use Rattle.apex_history.specs.declared.pages.TheConstants.{PAGE_ROOM};
 
     ghost Value = { List ℕ };
 
-    ghost view = { λ p. p.text.items };
+    ghost view = { λ g. g.text.items };
 
-    ghost invariant = { λ p. (length p.text.items ≤ PAGE_ROOM)
-        × (PAGE_ROOM ≤ vec_capacity p.text) };
+    ghost invariant = { λ g. (length g.text.items ≤ ROOM) × (ROOM ≤ vec_capacity g.text) };
 }
 
-impl Page {
-    /// An empty page, which takes the memory for [`PAGE_ROOM`] bytes at once. It fails only for
-    /// want of memory.
-    pub fn new(alloc: Global) -> Result<Page, AllocError>
-        ensures { IfOk result (λ page. page ≡ []) }
+impl<const ROOM: usize> Gathered<ROOM> {
+    /// A buffer without text, which takes the memory for its bytes at once. It fails only for want
+    /// of memory.
+    pub fn new(alloc: Global) -> Result<Gathered<ROOM>, AllocError>
+        ensures { IfOk result (λ gathered. gathered ≡ []) }
     {
-        let text = Vec::with_capacity(alloc, PAGE_ROOM)?;
-        Ok(Page { text })
+        let text = Vec::with_capacity(alloc, ROOM)?;
+        Ok(Gathered { text })
     }
 
     /// Forgets the text.
@@ -53,12 +52,13 @@ impl Page {
         self.text.clear();
     }
 
-    /// Writes the text out if lines may not fit behind it.
-    pub(crate) fn make_room<W: Sink>(&mut self, writer: &mut Counted<W>) -> io::Result<()>
+    /// Writes the text out if `room` bytes may not fit behind it.
+    pub fn make_room<W: Sink>(&mut self, room: usize, writer: &mut Counted<W>) -> io::Result<()>
+        requires { room ≤ ROOM }
         ensures ok { OnOk result
             (Passes (W.contents (inner_of writer.old))
             (W.contents (inner_of writer.new)) self.old self.new) }
-        ensures room { length self.new + LINES_ROOM ≤ PAGE_ROOM }
+        ensures room { length self.new + room ≤ ROOM }
         ensures empty { OnErr result (self.new ≡ []) }
         ensures err { OnErr result
             (AppendsBeginning (W.contents (inner_of writer.old))
@@ -66,18 +66,19 @@ impl Page {
         ensures counted { CountsFailure result (failures_of writer.old) (failures_of writer.new) }
         ensures failed { IfErr result (IsOfWrite W.accepts (inner_of writer.new)) }
     {
-        if self.text.len() + LINES_ROOM <= PAGE_ROOM {
+        if room <= ROOM - self.text.len() {
             return Ok(());
         }
         self.hand_on(writer)
     }
 
-    /// Puts lines behind the text.
-    pub(crate) fn put(&mut self, lines: &[u8])
-        requires { length self.old + length lines.now ≤ PAGE_ROOM }
-        ensures { self.new ≡ self.old ++ lines.now }
+    /// Puts these bytes behind the text.
+    pub fn put(&mut self, more: &[u8])
+        requires { length self.old + length more.now ≤ ROOM }
+        ensures text { self.new ≡ self.old ++ more.now }
+        ensures len { length self.new ≡ length self.old + length more.now }
     {
-        let taken = self.text.extend_from_slice(lines);
+        let taken = self.text.extend_from_slice(more);
         let fits = taken.is_ok();
         prove!(fits);
     }

@@ -58,7 +58,7 @@ pub(crate) fn pass_on<W: Sink>(
     ensures counted { CountsFailure result (failures_of writer.old) (failures_of writer.new) }
     ensures failed { IfErr result (IsOfWrite W.accepts (inner_of writer.new)) }
 {
-    page.make_room(writer)?;
+    page.make_room(LINES_ROOM, writer)?;
     page.put(lines.as_slice());
     lines.clear();
     Ok(())

@@ -8,7 +8,7 @@ ghost use Rattle.apex_waves.specs.declared.sheets.TheConstants.{SHEET_ROOM};
 
 use crate::kinds::{Kind, SCOPE_WORD_ROOM};
 use crate::names::{CODE_ROOM, NAME_ROOM, put_code, put_signal_name};
-use crate::sheets::Sheet;
+use crate::sheets::{Sheet, put};
 use crate::signals::Signal;
 use apex_configs::Table;
 use apex_types::MOST_PROCESSES;
@@ -32,7 +32,7 @@ pub(crate) fn put_opening(sheet: &mut Sheet)
     ensures text { sheet.new ≡ sheet.old ++ opening_text }
     ensures short { length sheet.new ≤ length sheet.old + OPENING_ROOM }
 {
-    sheet.put("$version apex $end\n$timescale 10 ns $end\n");
+    put(sheet, "$version apex $end\n$timescale 10 ns $end\n");
 }
 
 /// The type of a signal's variable, with its size.
@@ -54,13 +54,13 @@ fn put_declaration(sheet: &mut Sheet, table: &Table, signal: &Signal)
     ensures text { sheet.new ≡ sheet.old ++ declaration_text table.now signal.now }
     ensures short { length sheet.new ≤ length sheet.old + DECLARATION_ROOM }
 {
-    sheet.put("$var ");
-    sheet.put(type_word(signal));
-    sheet.put(" ");
+    put(sheet, "$var ");
+    put(sheet, type_word(signal));
+    put(sheet, " ");
     put_code(sheet, signal);
-    sheet.put(" ");
+    put(sheet, " ");
     put_signal_name(sheet, table, signal);
-    sheet.put(" $end\n");
+    put(sheet, " $end\n");
 }
 
 /// Puts the declarations of the signals of a kind.
@@ -82,11 +82,11 @@ fn put_scope(sheet: &mut Sheet, table: &Table, kind: Kind)
     ensures text { sheet.new ≡ sheet.old ++ scope_text table.now kind }
     ensures short { length sheet.new ≤ length sheet.old + SCOPE_ROOM }
 {
-    sheet.put("$scope module ");
-    sheet.put(kind.scope());
-    sheet.put(" $end\n");
+    put(sheet, "$scope module ");
+    put(sheet, kind.scope());
+    put(sheet, " $end\n");
     put_declarations(sheet, table, kind);
-    sheet.put("$upscope $end\n");
+    put(sheet, "$upscope $end\n");
 }
 
 /// Puts the scopes of all kinds.
@@ -112,5 +112,5 @@ pub(crate) fn put_first(sheet: &mut Sheet)
     ensures text { sheet.new ≡ sheet.old ++ first_text }
     ensures short { length sheet.new ≤ length sheet.old + OPENING_ROOM }
 {
-    sheet.put("$enddefinitions $end\n#0\n$dumpvars\n");
+    put(sheet, "$enddefinitions $end\n#0\n$dumpvars\n");
 }

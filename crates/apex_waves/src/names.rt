@@ -6,7 +6,7 @@ ghost use Rattle.apex_waves.specs.Names.{code_text, dump_name, is_plain, letter,
 ghost use Rattle.apex_waves.specs.declared.names.TheConstants.{CODE_ROOM, NAME_ROOM, NUMBER_ROOM};
 ghost use Rattle.apex_waves.specs.declared.sheets.TheConstants.{SHEET_ROOM};
 
-use crate::sheets::Sheet;
+use crate::sheets::{Sheet, put};
 use crate::signals::Signal;
 use apex_configs::Table;
 use apex_names::{
@@ -31,7 +31,7 @@ pub(crate) fn put_number(sheet: &mut Sheet, number: u64)
     ensures short { length sheet.new ≤ length sheet.old + NUMBER_ROOM }
 {
     let mut digits = Buffer::new();
-    sheet.put(digits.format(number));
+    put(sheet, digits.format(number));
 }
 
 /// A hexadecimal digit.
@@ -58,9 +58,9 @@ fn put_name_byte(sheet: &mut Sheet, byte: u8)
     ensures short { length sheet.new ≤ length sheet.old + 3 }
 {
     if is_plain(byte) {
-        sheet.put_bytes(&[byte]);
+        sheet.put(&[byte]);
     } else {
-        sheet.put_bytes(&[b'%', digit(byte / 16), digit(byte % 16)]);
+        sheet.put(&[b'%', digit(byte / 16), digit(byte % 16)]);
     }
 }
 
@@ -85,7 +85,7 @@ pub(crate) fn put_signal_name(sheet: &mut Sheet, table: &Table, signal: &Signal)
 {
     match signal {
         Signal::Core(core) => {
-            sheet.put("core");
+            put(sheet, "core");
             put_number(sheet, u64::from(core.number()));
         }
         Signal::Process(process) => put_name(sheet, process_name(table, *process)),
@@ -135,6 +135,6 @@ pub(crate) fn put_code(sheet: &mut Sheet, signal: &Signal)
     ensures text { sheet.new ≡ sheet.old ++ code_text signal.now }
     ensures short { length sheet.new ≤ length sheet.old + CODE_ROOM }
 {
-    sheet.put(letter(signal));
+    put(sheet, letter(signal));
     put_number(sheet, u64::from(number(signal)));
 }

@@ -21,9 +21,9 @@ use crate::heads::{put_first, put_opening, put_scopes};
 use crate::instants::units;
 use crate::levels::Levels;
 use crate::names::put_number;
-use crate::sheets::Sheet;
+use crate::sheets::{Sheet, put};
 use crate::signals::{Signal, signals_of};
-use crate::values::{put_changes, put_values};
+use crate::values::{STEP_ROOM, put_changes, put_values};
 use apex_dispatch::Kernel;
 use apex_history::{Counted, Sink};
 use apex_moments::Instant;
@@ -45,9 +45,9 @@ fn put_time(sheet: &mut Sheet, time: u64)
     ensures text { sheet.new ≡ sheet.old ++ time_line time }
     ensures short { length sheet.new ≤ length sheet.old + TIME_ROOM }
 {
-    sheet.put("#");
+    put(sheet, "#");
     put_number(sheet, time);
-    sheet.put("\n");
+    put(sheet, "\n");
 }
 
 /// Puts what comes before the first entry, and gives the course of a kernel before any event.
@@ -64,7 +64,7 @@ fn put_head<S: Store>(sheet: &mut Sheet, kernel: &Kernel<S>, signals: &[Signal])
     put_scopes(sheet, kernel.table());
     put_first(sheet);
     let levels = put_values(sheet, kernel, signals);
-    sheet.put("$end\n");
+    put(sheet, "$end\n");
     Course {
         instant: Instant::opening(),
         levels,
@@ -142,10 +142,10 @@ pub fn print_waves<S: Store, W: Sink>(
     let signals = signals_of(kernel.table());
     let mut course = put_head(sheet, kernel, signals.as_slice());
     for event in events {
-        sheet.make_room(writer)?;
+        sheet.make_room(STEP_ROOM, writer)?;
         put_event(sheet, kernel, *event, signals.as_slice(), &mut course);
     }
-    sheet.make_room(writer)?;
+    sheet.make_room(STEP_ROOM, writer)?;
     put_end(sheet, kernel, &course);
     sheet.hand_on(writer)
 }

@@ -9,7 +9,7 @@ ghost use Rattle.apex_waves.specs.declared.values.TheConstants.{LEVEL_ROOM, VALU
 
 use crate::levels::{Level, Levels, is_same_level, level_of};
 use crate::names::{CODE_ROOM, NAME_ROOM, NUMBER_ROOM, put_code, put_name, put_number};
-use crate::sheets::Sheet;
+use crate::sheets::{Sheet, put};
 use crate::signals::{MOST_SIGNALS, Signal};
 use apex_configs::Table;
 use apex_dispatch::Kernel;
@@ -38,16 +38,16 @@ fn put_level(sheet: &mut Sheet, table: &Table, level: &Level)
 {
     match level {
         Level::State(state) => {
-            sheet.put("s");
-            sheet.put(state_word(*state));
+            put(sheet, "s");
+            put(sheet, state_word(*state));
         }
-        Level::Process(None) => sheet.put("s(none)"),
+        Level::Process(None) => put(sheet, "s(none)"),
         Level::Process(Some(process)) => {
-            sheet.put("s");
+            put(sheet, "s");
             put_name(sheet, process_name(table, *process));
         }
         Level::Count(count) => {
-            sheet.put("r");
+            put(sheet, "r");
             put_number(sheet, *count);
         }
     }
@@ -61,9 +61,9 @@ fn put_value(sheet: &mut Sheet, table: &Table, signal: &Signal, level: &Level)
     ensures short { length sheet.new ≤ length sheet.old + VALUE_ROOM }
 {
     put_level(sheet, table, level);
-    sheet.put(" ");
+    put(sheet, " ");
     put_code(sheet, signal);
-    sheet.put("\n");
+    put(sheet, "\n");
 }
 
 /// Puts the line of a signal if its level is not the one before.
