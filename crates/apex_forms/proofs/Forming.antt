@@ -1,6 +1,5 @@
 -- The canonical records, made one after the other.
-use Rattle.std.proofs.Common.{◌≡◌, ◌≢◌, ◌∙◌, ℕ, zero, suc, ◌+◌, ◌*◌, ◌<◌, ◌≤◌, List, [], ◌∷◌, length, get_or, set, drop, max, pos, ℤ, slice_index, subst, refl, sym, ap, arith, add-one, inl, inr}
-use Rattle.std.proofs.Math.Seq.{drop-cons}
+use Rattle.std.proofs.Common.{◌≡◌, ◌≢◌, ◌∙◌, ℕ, zero, suc, ◌+◌, ◌*◌, ◌<◌, ◌≤◌, List, [], ◌∷◌, length, get_or, set, pos, ℤ, slice_index, subst, refl, sym, ap, arith, inl, inr}
 use Rattle.std.proofs.lemmas.Bool.{cases_eq}
 use Rattle.std.proofs.lemmas.List.{ext_get_or, get_or-set_other, get_or-set_same, length-set}
 use Rattle.apex_types.proofs.Places.{get_or-map_places, length-map_places}
@@ -10,11 +9,6 @@ use Rattle.apex_forms.specs.Forms.{AreRanks, form_of, with_form, with_forms}
 use Rattle.apex_forms.specs.Records.{FitsRecord}
 use Rattle.apex_forms.specs.Terms.{Mode, Record}
 use Rattle.apex_alike.proofs.Canonical.{oldest_less}
-
--- the oldest age of the records from a place on
-pub oldest-drop : (now : ℕ) (rs : List Record) (p : ℕ) → p < length rs
-    → oldest_age now (drop p rs) ≡ max (age now (get_or rs p nobody)) (oldest_age now (drop (p + 1) rs))
-oldest-drop now rs p within = rw (drop-cons rs p nobody within, add-one p) refl
 
 -- no record is older
 pub oldest_least : (now : ℕ) (rs : List Record) (p : ℕ) → p < length rs
@@ -32,14 +26,6 @@ pub record IsForming (old new : Roster) (now place : ℕ) : Type 0 where
   pub many : length new.records ≡ length old.records
   pub done : (p : ℕ) → p < place → record_at new p ≡ canonical_record old now p (record_at old p)
   pub left : (p : ℕ) → place ≤ p → record_at new p ≡ record_at old p
-
-pub forming_begins : (old : Roster) (now : ℕ) → IsForming old old now 0
-forming_begins old now = record {
-  rest = refl;
-  many = refl;
-  done = λ p none. absurd (omega (arith, none));
-  left = λ p all. refl;
-}
 
 -- the stamp of a record in canonical form
 abbrev pub stamp_of : Roster → ℕ → ℤ

@@ -138,13 +138,6 @@ pub record AreRanking (roster : Roster) (ranks : List ℕ) (place other : ℕ) :
   pub done : (p : ℕ) → p < other → slice_index ranks p ≡ older_before roster p (place + 1)
   pub left : (p : ℕ) → other ≤ p → p < place → slice_index ranks p ≡ older_before roster p place
 
-pub ranking_begins : (roster : Roster) (ranks : List ℕ) (place : ℕ) → AreCounted roster ranks place place → AreRanking roster ranks place 0
-ranking_begins roster ranks place counted = record {
-  room = counted.room;
-  done = λ p none. absurd (omega (arith, none));
-  left = λ p all below. counted.each p below;
-}
-
 pub ranking_ends : (roster : Roster) (ranks : List ℕ) (place other : ℕ) → AreRanking roster ranks place other → place ≤ other
     → AreCounted roster ranks place (place + 1)
 ranking_ends roster ranks place other ranking all = record {

@@ -1,6 +1,7 @@
 //! The words and bytes of single values.
 ghost use Rattle.std.specs.Prelude.{◌≡◌, ◌<◌};
-ghost use Rattle.apex_forms.specs.Codes.{code_of, flag_word, holding_word, instant_word, message_word, mode_word, origin_word, suspender_byte};
+ghost use Rattle.apex_forms.specs.Codes.{code_of, flag_word, holding_word, instant_word};
+ghost use Rattle.apex_forms.specs.Codes.{message_word, mode_word, origin_word, suspender_byte};
 
 use apex_machine::{Holding, Suspender, Wait};
 use apex_types::{Message, Mode, Origin};

@@ -1,7 +1,8 @@
 //! The words of the objects.
 ghost use Rattle.std.specs.Prelude.{◌≡◌, length};
 ghost use Rattle.apex_forms.specs.declared.objects.TheConstants.{BUFFER_WORDS};
-ghost use Rattle.apex_forms.specs.Objects.{blackboard_words, buffer_words, event_flag_words, mutex_words, semaphore_words};
+ghost use Rattle.apex_forms.specs.Objects.{blackboard_words, buffer_words};
+ghost use Rattle.apex_forms.specs.Objects.{event_flag_words, mutex_words, semaphore_words};
 
 use crate::codes::{flag_word, message_word};
 use crate::parts::{Stored, put};

@@ -1,8 +1,7 @@
 //! The objects of words.
 ghost use Rattle.std.specs.Prelude.{◌≡◌, ℕ, List, false, length};
 ghost use Rattle.apex_types.specs.declared.limits.TheConstants.{MOST_MESSAGES};
-ghost use Rattle.apex_forms.specs.declared.objects.TheConstants.{BLACKBOARD_WORDS, BUFFER_WORDS, EVENT_FLAG_WORDS, MUTEX_WORDS, SEMAPHORE_WORDS};
-ghost use Rattle.apex_recall.specs.Objects.{blackboard_from, buffer_from, event_flag_from, messages_in, mutex_from, process_from, semaphore_from};
+ghost use Rattle.apex_recall.specs.Objects.{messages_in, process_from};
 
 use crate::values::{is_set, message_in};
 use apex_buffer::Buffer;
@@ -32,13 +31,6 @@ pub(crate) trait Restored: Drop {
         ensures { self.new ≡ restored self.old words.now };
 }
 
-fn restore_semaphore(semaphore: &mut Semaphore, words: &[u64])
-    requires { length words.now ≡ SEMAPHORE_WORDS }
-    ensures { semaphore.new ≡ semaphore_from semaphore.old words.now }
-{
-    semaphore.restore(is_set(words[0]), (words[1] % (1 << 16)) as u16);
-}
-
 /// The messages of these words.
 fn messages_in(words: &[u64]) -> ArrayVec<Message, MOST_MESSAGES>
     requires { length words.now ≡ MOST_MESSAGES }
@@ -53,37 +45,6 @@ fn messages_in(words: &[u64]) -> ArrayVec<Message, MOST_MESSAGES>
     messages
 }
 
-fn restore_buffer(buffer: &mut Buffer, words: &[u64])
-    requires { length words.now ≡ BUFFER_WORDS }
-    ensures { buffer.new ≡ buffer_from buffer.old words.now }
-{
-    buffer.restore(is_set(words[0]), messages_in(&words[1..]));
-}
-
-fn restore_blackboard(blackboard: &mut Blackboard, words: &[u64])
-    requires { length words.now ≡ BLACKBOARD_WORDS }
-    ensures { blackboard.new ≡ blackboard_from blackboard.old words.now }
-{
-    blackboard.restore(is_set(words[0]), message_in(words[1]));
-}
-
-fn restore_event_flag(event_flag: &mut EventFlag, words: &[u64])
-    requires { length words.now ≡ EVENT_FLAG_WORDS }
-    ensures { event_flag.new ≡ event_flag_from words.now }
-{
-    event_flag.restore(is_set(words[0]), is_set(words[1]));
-}
-
-fn restore_mutex(mutex: &mut Mutex, words: &[u64])
-    requires { length words.now ≡ MUTEX_WORDS }
-    ensures { mutex.new ≡ mutex_from words.now }
-{
-    *mutex = Mutex::new();
-    if is_set(words[0]) {
-        mutex.make();
-    }
-}
-
 impl Restored for Semaphore {
     ghost use Rattle.apex_forms.specs.declared.objects.TheConstants.{SEMAPHORE_WORDS};
     ghost use Rattle.apex_recall.specs.Objects.{semaphore_from};
@@ -95,7 +56,7 @@ impl Restored for Semaphore {
     const WORDS: usize = SEMAPHORE_WORDS;
 
     fn restore(&mut self, words: &[u64]) {
-        restore_semaphore(self, words);
+        self.restore(is_set(words[0]), (words[1] % (1 << 16)) as u16);
     }
 }
 
@@ -110,7 +71,7 @@ impl Restored for Buffer {
     const WORDS: usize = BUFFER_WORDS;
 
     fn restore(&mut self, words: &[u64]) {
-        restore_buffer(self, words);
+        self.restore(is_set(words[0]), messages_in(&words[1..]));
     }
 }
 
@@ -125,7 +86,7 @@ impl Restored for Blackboard {
     const WORDS: usize = BLACKBOARD_WORDS;
 
     fn restore(&mut self, words: &[u64]) {
-        restore_blackboard(self, words);
+        self.restore(is_set(words[0]), message_in(words[1]));
     }
 }
 
@@ -140,7 +101,7 @@ impl Restored for EventFlag {
     const WORDS: usize = EVENT_FLAG_WORDS;
 
     fn restore(&mut self, words: &[u64]) {
-        restore_event_flag(self, words);
+        self.restore(is_set(words[0]), is_set(words[1]));
     }
 }
 
@@ -155,7 +116,10 @@ impl Restored for Mutex {
     const WORDS: usize = MUTEX_WORDS;
 
     fn restore(&mut self, words: &[u64]) {
-        restore_mutex(self, words);
+        *self = Mutex::new();
+        if is_set(words[0]) {
+            self.make();
+        }
     }
 }
 

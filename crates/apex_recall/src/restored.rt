@@ -6,7 +6,9 @@ ghost use Rattle.apex_dispatch.specs.Works.{work_at};
 ghost use Rattle.apex_forms.specs.declared.records.TheConstants.{RECORD_WORDS};
 ghost use Rattle.apex_forms.specs.declared.stored.TheConstants.{CORE_WORDS};
 ghost use Rattle.apex_choices.specs.Counts.{IsSamePaced, count_at, paced_in};
-ghost use Rattle.apex_recall.specs.Restored.{AreCoreWords, AreRecordWords, IsOfTable, IsStored, IsWorkWords, counted_in, locks_in, objects_from, open_in, paced_from, part, processes_in, records_from, records_in, turns_in, worked_in, works_in};
+ghost use Rattle.apex_recall.specs.Restored.{AreCoreWords, AreRecordWords, IsOfTable, IsStored, IsWorkWords};
+ghost use Rattle.apex_recall.specs.Restored.{counted_in, locks_in, objects_from, open_in, paced_from, part};
+ghost use Rattle.apex_recall.specs.Restored.{processes_in, records_from, records_in, turns_in, worked_in, works_in};
 ghost use Rattle.apex_forms.specs.Stored.{counted_count, locks_count};
 
 use crate::objects::{Restored, restore_process};

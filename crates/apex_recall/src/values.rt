@@ -1,6 +1,7 @@
 //! The values of single words and bytes.
 ghost use Rattle.std.specs.Prelude.{◌≡◌};
-ghost use Rattle.apex_recall.specs.Values.{holding_in, instant_in, is_set, message_in, mode_in, sending, suspender_in, wait_of};
+ghost use Rattle.apex_recall.specs.Values.{holding_in, instant_in, is_set, message_in};
+ghost use Rattle.apex_recall.specs.Values.{mode_in, sending, suspender_in, wait_of};
 
 use apex_machine::{Holding, Suspender, Wait};
 use apex_types::{

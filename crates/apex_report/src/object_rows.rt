@@ -3,7 +3,8 @@ ghost use Rattle.std.specs.Prelude.{◌≡◌, ◌+◌, ◌≤◌, ◌++◌, len
 ghost use Rattle.arrayvec.specs.ArrayVec.{array_vec_len};
 ghost use Rattle.apex_report.specs.Members.{members_in};
 ghost use Rattle.apex_report.specs.Ownerships.{held_ticks};
-ghost use Rattle.apex_report.specs.Rows.{content_in, held_by_in, holder_in, kind_name, longest_in, object_head, object_row, ownership_in, queue_members};
+ghost use Rattle.apex_report.specs.Rows.{content_in, held_by_in, holder_in, kind_name, longest_in};
+ghost use Rattle.apex_report.specs.Rows.{object_head, object_row, ownership_in, queue_members};
 ghost use Rattle.apex_report.specs.declared.lines.TheConstants.{LINE_ROOM};
 ghost use Rattle.apex_report.specs.declared.members.TheConstants.{MOST_STRING};
 ghost use Rattle.apex_report.specs.declared.rows.TheConstants.{FRONT};

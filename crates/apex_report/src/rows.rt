@@ -5,7 +5,8 @@ ghost use Rattle.apex_json.specs.declared.Form as forms;
 ghost use Rattle.apex_machine.specs.table.Table as tables;
 ghost use Rattle.apex_report.specs.Jobs.{response};
 ghost use Rattle.apex_report.specs.Members.{members_in};
-ghost use Rattle.apex_report.specs.Rows.{core_members, core_row, counted_row, is_listed, process_members, process_row, refusal_members, service_row};
+ghost use Rattle.apex_report.specs.Rows.{core_members, core_row, counted_row, is_listed};
+ghost use Rattle.apex_report.specs.Rows.{process_members, process_row, refusal_members, service_row};
 ghost use Rattle.apex_report.specs.declared.lines.TheConstants.{LINE_ROOM};
 ghost use Rattle.apex_report.specs.declared.rows.TheConstants.{FRONT};
 
