@@ -20,6 +20,7 @@ use apex_dispatch::Kernel;
 use apex_history::{Counted, ReadFault, Sink, Source, read_all};
 use apex_json::Form;
 use apex_process::QueueStore;
+use apex_store::Store;
 use std::alloc::{AllocError, Global};
 use std::io::{self, Write};
 
@@ -147,11 +148,11 @@ fn put_reason_in(form: Form, page: &mut Vec<u8>, reason: &[u8]) -> Result<(), Al
 
 /// Puts the reason of the kernel's entry of this number.
 #[tactic(auto, using(crate::proofs::Following::not_lacking))]
-fn put_why(
+fn put_why<S: Store>(
     alloc: Global,
     form: Form,
     page: &mut Vec<u8>,
-    kernel: Kernel<QueueStore>,
+    kernel: Kernel<S>,
     number: u32,
 ) -> Result<(), AllocError>
     requires { HasEvent (events_of kernel.machine.history) number }
@@ -182,12 +183,12 @@ fn shown_number(verdict: &Verdict) -> Option<u32>
 }
 
 /// Puts the reason of the kernel's entry of this number, if there is one.
-fn put_reason_of(
+fn put_reason_of<S: Store>(
     alloc: Global,
     form: Form,
     page: &mut Vec<u8>,
     number: Option<u32>,
-    kernel: Kernel<QueueStore>,
+    kernel: Kernel<S>,
 ) -> Result<(), AllocError>
     requires { HasEventIfAny (events_of kernel.machine.history) number }
     ensures { OnOk result (EndsPage form kernel.table (events_of kernel.machine.history) number
@@ -200,14 +201,14 @@ fn put_reason_of(
 }
 
 /// Puts the explanation of a verdict by the kernel that gave it.
-fn put_page(
+fn put_page<S: Store>(
     alloc: Global,
     form: Form,
     page: &mut Vec<u8>,
     comments: bool,
     history: &[u8],
     verdict: &Verdict,
-    kernel: Kernel<QueueStore>,
+    kernel: Kernel<S>,
 ) -> Result<(), AllocError>
     requires empty { page.old.items ≡ [] }
     requires tellable { IsTellable kernel.table verdict.now }
@@ -231,13 +232,13 @@ fn put_page(
 
 /// The verdict of a kernel that has followed a history, by the number of the line as it was given.
 /// Its explanation is put.
-fn told(
+fn told<S: Store>(
     alloc: Global,
     form: Form,
     page: &mut Vec<u8>,
     comments: bool,
     history: &[u8],
-    followed: Followed<QueueStore>,
+    followed: Followed<S>,
 ) -> Result<Verdict, AllocError>
     requires empty { page.old.items ≡ [] }
     requires tellable { IsTellable followed.kernel.table followed.verdict }

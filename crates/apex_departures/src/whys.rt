@@ -7,7 +7,6 @@ ghost use Rattle.apex_departures.specs.Why.{IsNumbered, IsReasonAt, IsReasonBehi
 use apex_configs::Table;
 use apex_console::booted;
 use apex_dispatch::{Kernel, events_in};
-use apex_process::QueueStore;
 use apex_reasons::{ReasonText, reason_of};
 use apex_store::Store;
 use apex_types::Event;
@@ -103,9 +102,9 @@ fn reason_at(
 ///
 /// Another kernel of its table makes the events before the entry, and the reason is read off its
 /// situation then.
-pub fn why(
+pub fn why<S: Store>(
     alloc: Global,
-    kernel: Kernel<QueueStore>,
+    kernel: Kernel<S>,
     number: u32,
 ) -> Result<Option<ReasonText>, AllocError>
     ensures some { IfOk result (λ found. IfSome found

@@ -7,11 +7,11 @@ use Rattle.apex_departures.specs.Lines.{line_parts}
 use Rattle.apex_departures.proofs.explaining.put_page.Goals as goal
 
 pub put_reason_of-requires : goal.put_reason_of-requires
-put_reason_of-requires c =
+put_reason_of-requires g c =
     subst (λ (n : Option ℕ). HasEventIfAny (events_of c.args.kernel.machine.history) n) (sym c.shown_number.ensures) c.requires.shows
 
 pub returns-in-Ok : goal.returns-in-Ok
-returns-in-Ok c =
+returns-in-Ok g c =
     let table = c.args.kernel.table in
     let events = events_of c.args.kernel.machine.history in
     let lines = lines_in c.args.form c.args.comments (line_parts c.args.history.now) table c.args.verdict.now in
