@@ -20,18 +20,18 @@ use apex_dispatch::{Kernel, events_in};
 use apex_history::{Counted, Page, Sink};
 use apex_json::Form;
 use apex_objects::{ObjectLines, print_history_objects, print_listing_objects};
-use apex_process::QueueStore;
 use apex_report::{Report, print_report, print_report_json, report_of};
 use apex_schedules::print_schedule;
 use apex_showings::Listing;
+use apex_store::Store;
 use apex_types::Event;
 use std::alloc::Global;
 use std::io;
 use std::io::Write;
 
 /// Writes the lines of a kernel's history, which are gathered in the page.
-fn print_lines<W: Sink>(
-    kernel: &Kernel<QueueStore>,
+fn print_lines<S: Store, W: Sink>(
+    kernel: &Kernel<S>,
     page: &mut Page,
     writer: &mut Counted<W>,
 ) -> Result<(), CliFault>
@@ -46,9 +46,9 @@ fn print_lines<W: Sink>(
 }
 
 /// Writes the lines of a kernel's history.
-fn write_lines<W: Sink>(
+fn write_lines<S: Store, W: Sink>(
     alloc: Global,
-    kernel: &Kernel<QueueStore>,
+    kernel: &Kernel<S>,
     writer: &mut Counted<W>,
 ) -> Result<(), CliFault>
     ensures { Shows (listed (Lines Text)) kernel.now.table kernel.now.machine None
@@ -60,8 +60,8 @@ fn write_lines<W: Sink>(
 }
 
 /// Writes the entries of a kernel's history as objects.
-fn write_history_objects<W: Sink>(
-    kernel: &Kernel<QueueStore>,
+fn write_history_objects<S: Store, W: Sink>(
+    kernel: &Kernel<S>,
     writer: &mut Counted<W>,
 ) -> Result<(), CliFault>
     ensures { Shows (listed (Lines Json)) kernel.now.table kernel.now.machine None
@@ -77,9 +77,9 @@ fn write_history_objects<W: Sink>(
 }
 
 /// Writes the last state of a kernel.
-fn write_status<W: Sink>(
+fn write_status<S: Store, W: Sink>(
     alloc: Global,
-    kernel: &Kernel<QueueStore>,
+    kernel: &Kernel<S>,
     writer: &mut Counted<W>,
 ) -> Result<(), CliFault>
     ensures { Shows (listed (Status Text)) kernel.now.table kernel.now.machine None
@@ -94,8 +94,8 @@ fn write_status<W: Sink>(
 }
 
 /// Writes the last state of a kernel as objects.
-fn write_status_objects<W: Sink>(
-    kernel: &Kernel<QueueStore>,
+fn write_status_objects<S: Store, W: Sink>(
+    kernel: &Kernel<S>,
     writer: &mut Counted<W>,
 ) -> Result<(), CliFault>
     ensures { Shows (listed (Status Json)) kernel.now.table kernel.now.machine None
@@ -130,10 +130,10 @@ fn print_in<W: Sink>(
 }
 
 /// Writes the report of a kernel's history, in this form.
-fn write_report<W: Sink>(
+fn write_report<S: Store, W: Sink>(
     alloc: Global,
     form: Form,
-    kernel: &Kernel<QueueStore>,
+    kernel: &Kernel<S>,
     writer: &mut Counted<W>,
 ) -> Result<(), CliFault>
     ensures { Shows (listed (ReportIn form)) kernel.now.table kernel.now.machine None
@@ -161,9 +161,9 @@ fn print_events<W: Sink>(events: &[Event], writer: &mut Counted<W>) -> io::Resul
 }
 
 /// Writes the schedule of a kernel's events.
-fn write_schedule<W: Sink>(
+fn write_schedule<S: Store, W: Sink>(
     alloc: Global,
-    kernel: &Kernel<QueueStore>,
+    kernel: &Kernel<S>,
     writer: &mut Counted<W>,
 ) -> Result<(), CliFault>
     ensures { Shows (listed Schedule) kernel.now.table kernel.now.machine None
@@ -178,10 +178,10 @@ fn write_schedule<W: Sink>(
 }
 
 /// Writes the listing of a kernel. It takes all its memory before it writes.
-fn write_listing<W: Sink>(
+fn write_listing<S: Store, W: Sink>(
     alloc: Global,
     listing: Listing,
-    kernel: &Kernel<QueueStore>,
+    kernel: &Kernel<S>,
     writer: &mut Counted<W>,
 ) -> Result<(), CliFault>
     ensures { Shows (listed listing) kernel.now.table kernel.now.machine None

@@ -6,14 +6,14 @@ use Rattle.apex_views.specs.Paced.{rounds_until}
 use Rattle.apex_views.proofs.runs.paced.Goals as goal
 
 pub returns-in-Ok-clause-fault : goal.returns-in-Ok-clause-fault
-returns-in-Ok-clause-fault c =
+returns-in-Ok-clause-fault g c =
     let old = c.args.rounds.now in
     let events = rounds_until old.pace c.args.until old.kernel.table in
     let fits = rw c.requires.paced at (c.in-Ok.ensures.makes.accepted.0 refl) in
     sym (fault_fits old.kernel.table events (omega (arith, fits)))
 
 pub returns-in-Err-clause-fault : goal.returns-in-Err-clause-fault
-returns-in-Err-clause-fault c =
+returns-in-Err-clause-fault g c =
     let old = c.args.rounds.now in
     let table = old.kernel.table in
     let events = rounds_until old.pace c.args.until table in
