@@ -1,5 +1,3 @@
-pub mod Written
-pub mod Lasts
 pub mod LastEntries
 pub mod Shortest
 pub mod Slowest

@@ -1,4 +1,3 @@
 pub mod Texts
 pub mod Answers
-pub mod Censuses
 pub mod Worst

@@ -3,7 +3,7 @@ use Rattle.std.proofs.Common.{◌≡◌, ◌∙◌, ◌<◌, ap, arith, inl, inr
 use Rattle.std.specs.Prelude.{Result}
 use Rattle.clap.specs.Words.{Text}
 use Rattle.apex_answers.specs.Answers.{IsAnswerOf}
-use Rattle.apex_answers.specs.Censuses.{ended}
+use Rattle.apex_printouts.specs.Censuses.{ended}
 use Rattle.apex_answers.specs.declared.SearchAnswer.{SearchAnswer}
 use Rattle.apex_answers.specs.declared.WorstAnswer.{WorstAnswer}
 use Rattle.apex_calls.specs.declared.Service.{Service}

@@ -16,7 +16,7 @@ use Rattle.apex_questions.specs.declared.Fact.{Fact}
 use Rattle.apex_table.specs.Reading.{table_of}
 use Rattle.apex_words.specs.declared.TableFault.{TableFault}
 use Rattle.apex_answers.specs.Answers.{IsAnswerOf, Says, SearchEnd, answer_end, answer_text, finds, is_beyond, is_full, never}
-use Rattle.apex_answers.specs.Censuses.{SaysCensus, census_end, census_text}
+use Rattle.apex_printouts.specs.Censuses.{SaysCensus, census_end, census_text}
 use Rattle.apex_answers.specs.Worst.{IsWorstAnswer, SaysWorst, worst_end, worst_text}
 use Rattle.apex_answers.specs.declared.SearchAnswer.{SearchAnswer}
 use Rattle.apex_answers.specs.declared.WorstAnswer.{WorstAnswer}

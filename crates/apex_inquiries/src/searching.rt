@@ -5,7 +5,7 @@ ghost use Rattle.apex_console.specs.Streams.{ports_of};
 ghost use Rattle.apex_history.specs.Counted.{inner_of, failures_of, CountsFailure, AppendsBeginning};
 ghost use Rattle.apex_pace.specs.Laws.{IsPace};
 ghost use Rattle.apex_answers.specs.Answers.{answer_end};
-ghost use Rattle.apex_answers.specs.Censuses.{census_end};
+ghost use Rattle.apex_printouts.specs.Censuses.{census_end};
 ghost use Rattle.apex_answers.specs.Worst.{worst_end};
 ghost use Rattle.apex_names.specs.Processes.{place_of};
 ghost use Rattle.apex_inquiries.specs.Ends.{end_in};
@@ -13,7 +13,7 @@ ghost use Rattle.apex_inquiries.specs.Searches.{HasFacts, HasGreatest, HasShorte
 
 use crate::endings::{SearchEnding, SearchFault};
 use crate::progress::Progress;
-use apex_answers::{SearchAnswer, WorstAnswer, answer_of, print_census, worst_of};
+use apex_answers::{SearchAnswer, WorstAnswer, answer_of, worst_of};
 use apex_calls::Service;
 use apex_configs::Table;
 use apex_console::{CliFault, table_for};
@@ -22,6 +22,7 @@ use apex_history::{Counted, Sink, Source, read_all};
 use apex_jobs::Jobs;
 use apex_names::process_of;
 use apex_pace::Pace;
+use apex_printouts::{print_answer, print_census, print_worst};
 use apex_questions::{Fact, Facts, Search, Sought};
 use apex_search::{Census, End, Question, TableSystem, Worst};
 use apex_types::{Name, ProcessId};
@@ -250,9 +251,9 @@ impl Answer {
         ensures counted { CountsFailure result (failures_of writer.old) (failures_of writer.new) }
     {
         match self {
-            Answer::Fact(answer) => answer.print(room, writer),
+            Answer::Fact(answer) => print_answer(answer, room, writer),
             Answer::Facts(census) => print_census(census, room, writer),
-            Answer::Response(answer) => answer.print(room, writer),
+            Answer::Response(answer) => print_worst(answer, room, writer),
         }
     }
 }

@@ -8,6 +8,7 @@ use apex_explore::NoWatch;
 use apex_history::{Counted, FailAt};
 use apex_jobs::Jobs;
 use apex_names::process_of;
+use apex_printouts::print_answer;
 use apex_questions::{Fact, Facts, fact_of, word_of};
 use apex_table::read_table;
 use apex_types::{Name, ProcessId, ReturnCode};
@@ -47,9 +48,7 @@ fn printed<R: Abort + Threads + Sync>(rt: &R, alloc: Global, text: &str, room: u
         rt, "memory",
     );
     let mut paper = paper(rt, alloc, ROOM, 0);
-    answer
-        .print(room, &mut Counted::new(&mut paper))
-        .expect(rt, "room for it");
+    print_answer(&answer, room, &mut Counted::new(&mut paper)).expect(rt, "room for it");
     drop(answer);
     drop(system);
     paper

@@ -2,10 +2,10 @@
 
 use crate::papers::paper;
 use crate::searches::{MUTEX, SEMAPHORE, question_of, system_of};
-use apex_answers::print_census;
 use apex_explore::NoWatch;
 use apex_history::{Counted, FailAt};
 use apex_jobs::Jobs;
+use apex_printouts::print_census;
 use apex_questions::{Fact, Facts};
 use apex_search::{Census, End};
 use std::alloc::Global;

@@ -7,6 +7,7 @@ use apex_answers::worst_of;
 use apex_explore::NoWatch;
 use apex_history::{Counted, FailAt};
 use apex_jobs::Jobs;
+use apex_printouts::print_worst;
 use apex_questions::{Fact, Facts};
 use apex_types::ProcessId;
 use std::alloc::Global;
@@ -146,9 +147,7 @@ fn printed<R: Abort + Threads + Sync>(
     )
     .expect(rt, "memory");
     let mut paper = paper(rt, alloc, 512, 0);
-    answer
-        .print(room, &mut Counted::new(&mut paper))
-        .expect(rt, "room for it");
+    print_worst(&answer, room, &mut Counted::new(&mut paper)).expect(rt, "room for it");
     drop(answer);
     paper
 }

@@ -1,0 +1,2 @@
+pub mod Written
+pub mod Lasts
