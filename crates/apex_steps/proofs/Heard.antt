@@ -1,5 +1,5 @@
 -- What is heard next, by the bytes that were read ahead.
-use Rattle.std.proofs.Common.{◌≡◌, ◌∙◌, ℕ, ◌+◌, ◌<◌, true, false, Option, None, Some, arith, refl, sym, ap, subst, List, [], ◌∷◌, ◌++◌, length, take, drop, append-nil}
+use Rattle.std.proofs.Common.{◌≡◌, ◌∙◌, ℕ, ◌+◌, ◌<◌, true, false, Option, None, Some, arith, refl, ap, subst, List, [], ◌++◌, length, take, drop, append-nil}
 use Rattle.std.proofs.KnownBytes.{Consumes-kept, Consumes-nil, Consumes-trans}
 use Rattle.std.proofs.lemmas.Bool.{lt-ltb}
 use Rattle.std.specs.Io.KnownBytes.{Consumes, IsAtEnd, Keeps, prepend_known}

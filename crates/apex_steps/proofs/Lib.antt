@@ -7,6 +7,5 @@ pub mod Talks
 pub mod Skipping
 pub mod Served
 pub mod NewEntries
-pub mod NewObjects
 pub mod MarksLeft
 pub mod Written

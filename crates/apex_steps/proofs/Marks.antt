@@ -1,5 +1,5 @@
 -- The marks of a session while its history grows and is cut.
-use Rattle.std.proofs.Common.{◌≡◌, ◌∙◌, ℕ, zero, suc, ◌+◌, ◌<◌, ◌≤◌, Bool, true, false, None, Some, nat_lt, ltb-true, arith, refl, sym, ap, inl, inr, List, [], ◌∷◌, ◌++◌, length, length-append, take, drop, map, append_assoc, take-append-drop, rules}
+use Rattle.std.proofs.Common.{◌≡◌, ◌∙◌, ℕ, zero, suc, ◌<◌, ◌≤◌, Bool, true, false, None, Some, nat_lt, ltb-true, arith, refl, sym, ap, inl, inr, List, [], ◌∷◌, ◌++◌, length, length-append, take, drop, map, append_assoc, take-append-drop, rules}
 use Rattle.std.specs.List.{position, position_or_len}
 use Rattle.std.proofs.lemmas.Bool.{cases_lt, lt-ltb}
 use Rattle.std.proofs.lemmas.List.{drop-map, drop_all, length-map, length-take-le, take-append-le, take-map, take_all}
@@ -11,7 +11,7 @@ use Rattle.apex_laws.proofs.Runs.{accept-full, accept-room, run-append}
 use Rattle.apex_console.proofs.ItemRuns.{length-run}
 use Rattle.apex_dispatch.specs.Kernel.{KernelState, kernel_in}
 use Rattle.apex_steps.specs.Kept.{AreKept, is_kept_as, mark_kept, session_kept}
-use Rattle.apex_steps.specs.Sessions.{Mark, Session, after_events, gone_back, in_state_of, is_named, marked, marks_from}
+use Rattle.apex_steps.specs.Sessions.{Mark, after_events, gone_back, in_state_of, is_named, marked, marks_from}
 use Rattle.apex_steps.specs.declared.sessions.Mark.{Mark as MarkKept}
 
 -- a history grew by these entries

@@ -1,11 +1,11 @@
 -- The marks that are left behind going back to one of them.
-use Rattle.std.proofs.Common.{◌≡◌, ◌∙◌, ℕ, ◌+◌, ◌-◌, ◌<◌, ◌≤◌, Some, arith, refl, sym, ap, subst, List, [], ◌∷◌, length, length-drop, take, drop, get_or}
+use Rattle.std.proofs.Common.{◌≡◌, ◌∙◌, ℕ, ◌<◌, ◌≤◌, Some, arith, sym, ap, subst, List, [], ◌∷◌, length, length-drop, take, drop, get_or}
 use Rattle.std.specs.List.{position}
-use Rattle.std.proofs.lemmas.List.{length-map, length-take-le}
+use Rattle.std.proofs.lemmas.List.{length-take-le}
 use Rattle.apex_machine.specs.table.Table.{Table}
-use Rattle.apex_machine.specs.Machine.{Machine, event_of, events_of, opening, replay, run}
+use Rattle.apex_machine.specs.Machine.{Machine, events_of, opening, replay, run}
 use Rattle.apex_steps.specs.Kept.{AreKept, is_kept_as, session_kept}
-use Rattle.apex_steps.specs.Sessions.{Session, gone_back}
+use Rattle.apex_steps.specs.Sessions.{gone_back}
 use Rattle.apex_steps.specs.declared.sessions.Mark.{Mark as MarkKept}
 use Rattle.apex_steps.proofs.Marks.{history_cut, kept_back, kept_drop, place_found, session_back}
 

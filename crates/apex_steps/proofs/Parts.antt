@@ -1,5 +1,5 @@
 -- The parts of a text between line feeds, and of a line between spaces.
-use Rattle.std.proofs.Common.{◌≡◌, ◌∙◌, ℕ, ◌+◌, Bool, true, false, arith, refl, sym, ap, List, [], ◌∷◌, ◌++◌, length, cond, None}
+use Rattle.std.proofs.Common.{◌≡◌, ℕ, Bool, true, false, arith, refl, ap, List, [], ◌∷◌, ◌++◌, length, cond, None}
 use Rattle.std.specs.Prelude.{◌==◌}
 use Rattle.std.proofs.lemmas.List.Splits.{length-slice_split}
 use Rattle.apex_history.specs.Words.{parts}

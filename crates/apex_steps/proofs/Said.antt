@@ -1,11 +1,10 @@
 -- What is said so far, and on the bytes that are left.
-use Rattle.std.proofs.Common.{◌≡◌, ◌∙◌, ℕ, ◌<◌, Bool, true, false, arith, refl, sym, ap, List, [], ◌∷◌, ◌++◌, length, append_assoc}
+use Rattle.std.proofs.Common.{◌≡◌, ◌∙◌, ℕ, ◌<◌, false, arith, refl, sym, ap, List, [], ◌∷◌, ◌++◌, length, append_assoc}
 use Rattle.std.specs.Prelude.{if◌then◌else◌}
 use Rattle.apex_json.specs.declared.Form.{Form}
-use Rattle.apex_history.specs.Words.{parts}
 use Rattle.apex_incoming.specs.Lines.{IsOneLine, ended}
 use Rattle.apex_steps.specs.Answers.{answer, unended}
-use Rattle.apex_steps.specs.Objects.{answer_text}
+use Rattle.apex_steps.specs.Texts.{answer_text}
 use Rattle.apex_steps.specs.Conversations.{said}
 use Rattle.apex_steps.specs.Sessions.{Session}
 use Rattle.apex_steps.proofs.Parts.{line_first, one_part, some_part}

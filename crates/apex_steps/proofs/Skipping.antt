@@ -1,5 +1,5 @@
 -- A line that is skipped, part by part.
-use Rattle.std.proofs.Common.{◌≡◌, ◌∙◌, ℕ, ◌+◌, ◌<◌, ◌≤◌, Option, arith, ap, sym, subst, List, [], ◌++◌, length, length-append, take, drop, append_assoc, append-nil, ◌∷◌}
+use Rattle.std.proofs.Common.{◌≡◌, ◌∙◌, ℕ, ◌+◌, ◌≤◌, Option, arith, ap, sym, subst, List, [], ◌++◌, length, length-append, take, drop, append_assoc, ◌∷◌}
 use Rattle.std.proofs.KnownBytes.{Consumes-kept, Consumes-nil, Keeps-refl}
 use Rattle.std.proofs.lemmas.List.{drop_all, take_all}
 use Rattle.std.specs.Io.KnownBytes.{Consumes, Keeps, prepend_known}

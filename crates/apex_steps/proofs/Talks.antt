@@ -1,5 +1,5 @@
 -- What was said when a conversation ends, and when it goes on.
-use Rattle.std.proofs.Common.{◌≡◌, ◌∙◌, ℕ, true, false, Option, Ok, Err, refl, sym, ap, subst, List, [], ◌∷◌, ◌++◌, append-nil}
+use Rattle.std.proofs.Common.{◌≡◌, ◌∙◌, ℕ, true, false, Option, Ok, Err, refl, sym, ap, subst, List, [], ◌++◌, append-nil}
 use Rattle.std.specs.Prelude.{if◌then◌else◌}
 use Rattle.std.proofs.KnownBytes.{Appends-nil, Appends-trans, Consumes-nil, Consumes-trans}
 use Rattle.std.specs.Io.KnownBytes.{Appends, Consumes}
@@ -11,7 +11,7 @@ use Rattle.apex_incoming.specs.Ahead.{IsAhead}
 use Rattle.apex_incoming.specs.Lines.{ended}
 use Rattle.apex_incoming.proofs.Coming.{ahead_more, or_nothing}
 use Rattle.apex_steps.specs.Answers.{unended}
-use Rattle.apex_steps.specs.Objects.{answer_text}
+use Rattle.apex_steps.specs.Texts.{answer_text}
 use Rattle.apex_steps.specs.Conversations.{CountsReading, Hears, a_line, no_line, said}
 use Rattle.apex_steps.specs.Endings.{Converses, IsCutOff}
 use Rattle.apex_steps.specs.Sessions.{Session}

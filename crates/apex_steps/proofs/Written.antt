@@ -1,10 +1,10 @@
 -- What was written when calls of a writer follow one another.
 use Rattle.std.proofs.Common.{◌≡◌, ℕ, List, [], ◌++◌, Option, Result, Ok, Err, OnErr, OnOk, refl, sym, append-nil}
-use Rattle.std.proofs.KnownBytes.{Appends-kept, Appends-nil}
+use Rattle.std.proofs.KnownBytes.{Appends-kept}
 use Rattle.std.specs.Io.KnownBytes.{Appends, Keeps}
 use Rattle.apex_history.specs.Counted.{AppendsBeginning}
 use Rattle.apex_history.specs.Page.{Passes}
-use Rattle.apex_history.proofs.Passing.{beginning_after, passes_all, passes_with}
+use Rattle.apex_history.proofs.Passing.{beginning_after, passes_with}
 use Rattle.apex_steps.specs.Conversations.{IsFlushed}
 
 -- a fact that holds also holds if a call went well
@@ -26,10 +26,7 @@ pub beginning_behind : (a b c : Option (List ℕ)) (text more : List ℕ) → Ap
     → AppendsBeginning a c (text ++ more)
 beginning_behind a b c text more first begun = beginning_after a b c (text ++ more) more (text, refl, first) begun
 
--- nothing was written yet, or all
-pub passes_none : (a : Option (List ℕ)) (text : List ℕ) → Passes a a text text
-passes_none a text = ([], refl, Appends-nil a)
-
+-- all was written, and nothing is held
 pub passes_all_by : {T E : Type 0} (r : Result T E) (a b : Option (List ℕ)) (text held : List ℕ) → held ≡ []
     → OnOk r (Appends a b text) → OnOk r (Passes a b text held)
 passes_all_by (Ok x) a b text held none appends = (text, rw none (sym (append-nil text)), appends)
@@ -37,10 +34,6 @@ passes_all_by (Err e) a b text held none appends = tt
 
 -- what is held of a text was written, and more behind it
 module _ {T E : Type 0} (a b c : Option (List ℕ)) (text held more put : List ℕ) (passes : Passes a b text held) (is : put ≡ held ++ more) where
-  pub whole_by : (r : Result T E) → OnOk r (Appends b c put) → OnOk r (Appends a c (text ++ more))
-  whole_by (Ok x) appends = passes_all a b c (text ++ more) (held ++ more) (passes_with a b text held more passes) (rw is at appends)
-  whole_by (Err e) appends = tt
-
   pub begun_by : (r : Result T E) → OnErr r (AppendsBeginning b c put) → OnErr r (AppendsBeginning a c (text ++ more))
   begun_by (Ok x) begun = tt
   begun_by (Err e) begun = beginning_after a b c (text ++ more) (held ++ more) (passes_with a b text held more passes) (rw is at begun)

@@ -1,5 +1,5 @@
 -- A conversation: the lines of a text, what is said on them, and what is heard next.
-use Rattle.std.specs.Prelude.{◌≡◌, ◌<◌, ◌≤◌, ℕ, Bool, true, false, List, [], ◌∷◌, ◌++◌, length, Option, Some, None, Result, Ok, Err, MatchResult, if◌then◌else◌}
+use Rattle.std.specs.Prelude.{◌≡◌, ◌<◌, ◌≤◌, ℕ, Bool, List, [], ◌∷◌, ◌++◌, length, Option, Some, None, Result, Ok, MatchResult, if◌then◌else◌}
 use Rattle.std.specs.Io.KnownBytes.{Consumes}
 use Rattle.apex_json.specs.declared.Form.{Form}
 use Rattle.apex_incoming.specs.Ahead.{IsAhead}
@@ -7,7 +7,7 @@ use Rattle.apex_incoming.specs.Lines.{IsOneLine, ended}
 use Rattle.apex_history.specs.Counted.{one_more}
 use Rattle.apex_history.specs.Words.{parts}
 use Rattle.apex_steps.specs.Answers.{answer, unended}
-use Rattle.apex_steps.specs.Objects.{answer_text}
+use Rattle.apex_steps.specs.Texts.{answer_text}
 use Rattle.apex_steps.specs.Sessions.{Session}
 use Rattle.apex_steps.specs.declared.answers.Answered.{Answered}
 use Rattle.apex_steps.specs.declared.faults.StepFault.{StepFault}

@@ -1,5 +1,5 @@
 -- The ends of a conversation, and of a whole session.
-use Rattle.std.specs.Prelude.{◌≡◌, ℕ, List, Result, Ok, Err}
+use Rattle.std.specs.Prelude.{ℕ, List, Result, Ok, Err}
 use Rattle.std.specs.Io.KnownBytes.{Appends, Keeps}
 use Rattle.apex_json.specs.declared.Form.{Form}
 use Rattle.apex_machine.specs.table.Table.{Table}

@@ -4,8 +4,7 @@ pub mod Commands
 pub mod Sessions
 pub mod Kept
 pub mod Answers
-pub mod Objects
-pub mod Desks
+pub mod Texts
 pub mod Conversations
 pub mod Faults
 pub mod Endings

@@ -7,9 +7,8 @@ mod commands;
 mod conversations;
 mod desks;
 mod faults;
-mod line_desks;
-mod object_desks;
 mod refusals;
+mod sayings;
 mod sessions;
 
 pub use conversations::{converse, serve_steps};

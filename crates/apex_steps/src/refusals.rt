@@ -1,6 +1,6 @@
 //! The reasons why a line is not carried out.
 ghost use Rattle.std.specs.Prelude.{◌≡◌, ◌≤◌, length};
-ghost use Rattle.apex_steps.specs.Answers.{reason_text};
+ghost use Rattle.apex_steps.specs.Texts.{reason_text};
 
 /// The reason why a line is not carried out. Nothing changes then.
 #[derive(Clone, Copy)]

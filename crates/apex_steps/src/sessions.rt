@@ -2,7 +2,7 @@
 ghost use Rattle.std.specs.Prelude.{◌≡◌, ◌<◌, ◌≤◌, ◌∷◌, true, length, drop, take, All, IfOk, OnErr, OnOk, vec_len};
 ghost use Rattle.std.specs.List.{position};
 ghost use Rattle.apex_machine.specs.Events.{IsWithin};
-ghost use Rattle.apex_machine.specs.Machine.{events_of, opening, run};
+ghost use Rattle.apex_machine.specs.Machine.{events_of, opening, replay, run};
 ghost use Rattle.apex_dispatch.specs.Kernel.{kernel_in};
 ghost use Rattle.apex_schedules.specs.Schedule.{are_cores_below, events_of_items};
 ghost use Rattle.apex_steps.specs.Sessions.{after_events, marked, opening_session};
@@ -14,6 +14,7 @@ use apex_console::{booted, run_items};
 use apex_dispatch::{Kernel, events_in};
 use apex_process::QueueStore;
 use apex_schedules::{Item, are_cores_below};
+use apex_store::Store;
 use apex_types::Event;
 use std::alloc::{AllocError, Global};
 use std::marker::Model;
@@ -78,6 +79,36 @@ impl Model for Session {
     ghost view = { λ s. session_kept s.kernel.table s.kernel.machine s.marks.items };
 
     ghost invariant = { λ s. AreKept (length s.kernel.machine.history) s.marks.items };
+}
+
+// A session asks its kernel by two functions over any store: the prover takes longer for each call at
+// a store that it knows.
+
+/// The number of entries that the history of a kernel has, which make its very state anew.
+fn entry_count<S: Store>(kernel: &Kernel<S>) -> u32
+    ensures count { result ≡ length kernel.now.machine.history }
+    ensures replays { replay kernel.now.table kernel.now.machine.history ≡ kernel.now.machine }
+{
+    kernel.holds();
+    kernel.table().lawful();
+    kernel.entries().len() as u32
+}
+
+/// The table of a kernel and the events of its history, which make its very state anew. It fails only
+/// for want of memory.
+fn table_and_events<S: Store>(
+    alloc: Global,
+    kernel: Kernel<S>,
+) -> Result<(Table, Vec<Event>), AllocError>
+    ensures table { IfOk result (λ parts. parts.0 ≡ kernel.table) }
+    ensures events { IfOk result (λ parts. parts.1.items ≡ events_of kernel.machine.history) }
+    ensures replays { replay kernel.table kernel.machine.history ≡ kernel.machine }
+    ensures ranges { All (IsWithin kernel.table.cores) (events_of kernel.machine.history) }
+    ensures within { length kernel.machine.history ≤ kernel.table.limit }
+{
+    kernel.holds();
+    let events = events_in(alloc, &kernel)?;
+    Ok((kernel.into_table(), events))
 }
 
 /// A kernel of the table that has made these events.
@@ -146,9 +177,7 @@ impl Session {
     pub(crate) fn mark(&mut self, alloc: Global, name: &[u8]) -> Result<(), AllocError>
         ensures { IfOk result (λ done. self.new ≡ marked name.now self.old) }
     {
-        self.kernel.holds();
-        self.kernel.table().lawful();
-        let entries = self.kernel.entries().len() as u32;
+        let entries = entry_count(&self.kernel);
         let mark = Mark::new(alloc, name, entries)?;
         put_mark(&mut self.marks, mark)
     }
@@ -161,14 +190,13 @@ impl Session {
         let Some(place) = place_of(self.marks.as_slice(), name) else {
             return Ok((self, false));
         };
-        self.kernel.holds();
-        let events = events_in(alloc, &self.kernel)?;
         let Session { kernel, marks } = self;
+        let (table, events) = table_and_events(alloc, kernel)?;
         let marks = from_place(marks, place);
         let entries = marks[0].entries as usize;
         let all = events.as_slice();
         let first = &all[..entries];
-        let kernel = kernel_after(alloc, kernel.into_table(), first)?;
+        let kernel = kernel_after(alloc, table, first)?;
         Ok((Session { kernel, marks }, true))
     }
 }

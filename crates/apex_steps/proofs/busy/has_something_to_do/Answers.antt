@@ -1,17 +1,17 @@
 use Rattle.std.proofs.Common.{◌≡◌, ◌∙◌, ap, refl}
-use Rattle.std.specs.Prelude.{is_some, ◌||◌}
+use Rattle.std.specs.Prelude.{is_some}
 use Rattle.apex_machine.specs.Machine.{situation_of}
 use Rattle.apex_machine.specs.Situations.{Situation, due_call}
 use Rattle.apex_machine.specs.processes.Roster.{Roster}
 use Rattle.apex_machine.specs.processes.Running.{chosen}
 use Rattle.apex_machine.specs.table.Table.{Table}
 use Rattle.apex_dispatch.specs.Situations.{situation_in}
-use Rattle.apex_steps.specs.Answers.{has_something_to_do}
+use Rattle.apex_steps.specs.Texts.{has_something_to_do}
 use Rattle.apex_steps.proofs.busy.has_something_to_do.Goals as goal
 
 pub returns : goal.returns
 unfolding has_something_to_do
-returns c =
+returns g c =
     let table = c.args.kernel.now.table in
     let machine = c.args.kernel.now.machine in
     let core = c.args.core in

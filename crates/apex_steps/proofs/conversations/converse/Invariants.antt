@@ -1,9 +1,9 @@
 -- No read and no write failed so far. On the bytes that were taken the answers were written.
+use Rattle.std.specs.Prelude.{◌≡◌, []}
 use Rattle.std.specs.Io.KnownBytes.{prepend_known}
 use Rattle.apex_history.specs.Counted.{inner_of, failures_of, reads_left_of}
 use Rattle.apex_history.specs.Ports.{ports}
 use Rattle.apex_incoming.specs.Ahead.{fuel}
-use Rattle.apex_steps.specs.Desks.{IsEmpty}
 use Rattle.apex_steps.proofs.Talks.{HasTalked}
 use Rattle.apex_steps.proofs.conversations.converse.Given as goal
 
@@ -14,7 +14,7 @@ invariant-loop-desk g l = record {
       (failures_of l.fn.reader) (failures_of l.fn.writer))
       (ports (prepend_known l.pending (g.R.Source.remaining (inner_of l.reader))) (g.W.Sink.contents (inner_of l.writer))
       (failures_of l.reader) (failures_of l.writer));
-  empty : IsEmpty l.desk;
+  empty : l.desk.lines.items ≡ [];
 }
 
 abbrev pub decreases-loop-desk : goal.decreases-loop-desk

@@ -1,4 +1,3 @@
-use Rattle.std.proofs.Common.{◌≡◌}
 use Rattle.std.specs.Io.KnownBytes.{prepend_known}
 use Rattle.apex_history.specs.Counted.{inner_of}
 use Rattle.apex_incoming.specs.Ahead.{Comes, IsFirstLine}

@@ -1,4 +1,4 @@
-use Rattle.std.proofs.Common.{◌≡◌, false, length, true}
+use Rattle.std.proofs.Common.{false, length, true}
 use Rattle.std.specs.Io.KnownBytes.{prepend_known}
 use Rattle.apex_history.specs.Counted.{inner_of}
 use Rattle.apex_steps.specs.Conversations.{Skips}

@@ -1,4 +1,4 @@
-use Rattle.std.proofs.Common.{◌≡◌, ◌∙◌, ◌+◌, ◌<◌, ◌≤◌, ap, arith, refl, drop, length, length-append, length-drop}
+use Rattle.std.proofs.Common.{◌∙◌, ap, arith, refl, length, length-append}
 use Rattle.std.specs.Io.KnownBytes.{prepend_known}
 use Rattle.apex_history.specs.Counted.{inner_of}
 use Rattle.apex_incoming.specs.Ahead.{Comes, IsFirstLine}

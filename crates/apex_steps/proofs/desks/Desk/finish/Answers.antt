@@ -2,7 +2,7 @@ use Rattle.std.proofs.KnownBytes.{Appends-kept}
 use Rattle.apex_history.specs.Counted.{inner_of}
 use Rattle.apex_history.proofs.Outcomes.{OnErr-always}
 use Rattle.apex_steps.proofs.Written.{OnOk-always, flushes, unflushed}
-use Rattle.apex_steps.proofs.object_desks.ObjectDesk.finish.Goals as goal
+use Rattle.apex_steps.proofs.desks.Desk.finish.Goals as goal
 
 pub returns-clause-ok : goal.returns-clause-ok
 returns-clause-ok g c =
