@@ -2,7 +2,9 @@
 ghost use Rattle.std.specs.Prelude.{◌≡◌, ◌+◌, ◌*◌, ◌≤◌, ◌++◌, length, decimal, flat_map};
 ghost use Rattle.arrayvec.specs.ArrayVec.{array_vec_len};
 ghost use Rattle.apex_objects.specs.declared.lines.TheConstants.{MOST_OBJECT, OBJECTS_ROOM};
-ghost use Rattle.apex_steps.specs.Texts.{closing_in, closing_word, fault_in, front_in, instant_text, last_in, next_in, number_behind, running_text};
+ghost use Rattle.apex_steps.specs.Texts.{closing_in, closing_word, fault_in, front_in};
+ghost use Rattle.apex_steps.specs.Texts.{instant_text, last_in, next_in, number_behind};
+ghost use Rattle.apex_steps.specs.Texts.{running_text};
 
 use crate::answers::Saying;
 use crate::busy::{busy_cores, running_in};

@@ -4,7 +4,14 @@ ghost use Rattle.std.specs.Prelude.{map, string_bytes, option_map, option_and_th
 ghost use Rattle.clap.specs.declared.builder.command.Command.TheViews.{out-Command as fields_of};
 ghost use Rattle.clap.specs.Words.{app_of, found_of, rows_of, subcommand_rows_of};
 ghost use Rattle.apex_console.specs.Faults.{IsUsageOrMemory};
-ghost use Rattle.apex_tasks.specs.Words.{check_command, comments_in, dump_in, form_in, given_by, given_in, given_said, json_view_command, lab, lab_of_pictures, lab_of_searches, lab_of_views, lint_command, lint_in, lint_words_said, request_in, request_of, request_said, search_command, search_in, search_said, shown_said, showing_in, step_command, svg, svg_in, trace_command, trace_in, view_command, view_of, why_command, why_in};
+ghost use Rattle.apex_tasks.specs.Words.{check_command, comments_in, dump_in, form_in, given_by};
+ghost use Rattle.apex_tasks.specs.Words.{given_in, given_said, json_view_command, lab};
+ghost use Rattle.apex_tasks.specs.Words.{lab_of_pictures, lab_of_searches, lab_of_views};
+ghost use Rattle.apex_tasks.specs.Words.{lint_command, lint_in, lint_words_said, request_in};
+ghost use Rattle.apex_tasks.specs.Words.{request_of, request_said, search_command, search_in};
+ghost use Rattle.apex_tasks.specs.Words.{search_said, shown_said, showing_in, step_command, svg};
+ghost use Rattle.apex_tasks.specs.Words.{svg_in, trace_command, trace_in, view_command, view_of};
+ghost use Rattle.apex_tasks.specs.Words.{why_command, why_in};
 
 use apex_console::{
     Argument, CliFault, bare_line, has_flag, matches_of, with_arguments, with_command,
