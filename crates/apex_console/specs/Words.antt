@@ -1,5 +1,5 @@
 -- The words of a command line; the first word is the program's name.
-use Rattle.std.specs.Prelude.{◌≡◌, true, false, Bool, List, [], ◌∷◌, Option, Some, None, codes, if◌then◌else◌, option_and_then}
+use Rattle.std.specs.Prelude.{◌≡◌, true, false, Bool, List, [], ◌∷◌, Option, Some, None, codes, if◌then◌else◌, fold, option_and_then}
 use Rattle.std.specs.Str.{bytes_eq}
 use Rattle.clap.specs.declared.builder.ArgAction.TheVariants.{Set, SetTrue}
 use Rattle.clap.specs.Walk.{is_empty}
@@ -27,8 +27,7 @@ rule_for (Flag name) = flag_rule name.now
 
 -- the command with these rules, one behind the other
 unfoldable pub with_rules : App → List Rule → App
-with_rules app [] = app
-with_rules app (rule ∷ rules) = with_rules (with_rule app rule) rules
+with_rules app rules = fold with_rule app rules
 
 -- the program of this name, which wants a command
 abbrev pub program_alone : Text → App

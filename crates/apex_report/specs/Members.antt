@@ -1,14 +1,9 @@
 -- The members of a report's rows, and their texts in both forms of a report (this profile).
 use Rattle.std.specs.Prelude.{ℕ, ◌+◌, List, ◌++◌, Option, None, Some, codes, decimal, flat_map, length}
+use Rattle.apex_json.specs.Forms.{in_form}
 use Rattle.apex_json.specs.Strings.{json_text}
 use Rattle.apex_json.specs.declared.Form.{Form}
-use Rattle.apex_json.specs.declared.Form.TheVariants.{Text, Json}
 use Rattle.apex_report.specs.declared.members.Member as declared
-
--- the one of the two that belongs to the form
-abbrev pub in_form : {X : Type 0} → Form → X → X → X
-in_form Text text json = text
-in_form Json text json = json
 
 -- a name, as a string
 abbrev pub string_text : List ℕ → List ℕ

@@ -1,6 +1,7 @@
 -- The rows of a report, each in both forms (this profile): a line, or a JSON object. A row is a head with a
 -- name or a number, the members behind it, and the end.
 use Rattle.std.specs.Prelude.{ℕ, List, [], ◌∷◌, ◌++◌, Bool, true, Option, None, Some, codes, decimal, option_map, if◌then◌else◌}
+use Rattle.apex_json.specs.Forms.{in_form}
 use Rattle.apex_json.specs.declared.Form.TheVariants.{Text, Json}
 use Rattle.apex_calls.specs.Catalogue.{row_of}
 use Rattle.apex_machine.specs.declared.records.Queue.TheVariants as queues
@@ -8,7 +9,7 @@ use Rattle.apex_machine.specs.table.Table.{Table}
 use Rattle.apex_machine.specs.text.Texts.{object_name, process_name}
 use Rattle.apex_report.specs.Cores.{busy_percent}
 use Rattle.apex_report.specs.Jobs.{response}
-use Rattle.apex_report.specs.Members.{in_form, key_in, members_in, name_in, Member}
+use Rattle.apex_report.specs.Members.{key_in, members_in, name_in, Member}
 use Rattle.apex_report.specs.Ownerships.{held_ticks}
 use Rattle.apex_report.specs.Refusals.{some_refused}
 use Rattle.apex_report.specs.Terms.{CoreFigures, Form, JobFigures, ObjectFigures, Ownership, ProcessFigures, Queue, Refusals, ServiceFigures}

@@ -11,6 +11,7 @@ use Rattle.apex_calls.specs.Lines.{line_of}
 use Rattle.apex_objects.specs.Answers.{count_object, fault_object, front_object, next_object}
 use Rattle.apex_objects.specs.Entries.{entry_object}
 use Rattle.apex_objects.specs.Listing.{listing_objects}
+use Rattle.apex_json.specs.Forms.{in_form}
 use Rattle.apex_json.specs.declared.Form.{Form}
 use Rattle.apex_json.specs.declared.Form.TheVariants.{Text, Json}
 use Rattle.apex_steps.specs.Sessions.{Session}
@@ -103,11 +104,6 @@ front_in Text table machine =
     ++ flat_map running_text (running_in table machine) ++ codes "\n"
 front_in Json table machine =
     front_object table (length machine.history) machine.roster.now (running_in table machine)
-
--- the one of the two that belongs to the form
-abbrev pub in_form : Form → List ℕ → List ℕ → List ℕ
-in_form Text lines objects = lines
-in_form Json lines objects = objects
 
 -- an entry of the history
 abbrev pub entry_in : Form → Table → Entry → List ℕ

@@ -1,7 +1,8 @@
 use Rattle.std.proofs.Common.{◌++◌, ◌∙◌, ℕ, List, ap, codes}
 use Rattle.apex_calls.specs.Catalogue.{Row, row_of}
 use Rattle.apex_history.proofs.Joined.{five_joined}
-use Rattle.apex_report.specs.Members.{in_form, members_in}
+use Rattle.apex_json.specs.Forms.{in_form}
+use Rattle.apex_report.specs.Members.{members_in}
 use Rattle.apex_report.specs.Rows.{end_in, refusal_members}
 use Rattle.apex_report.proofs.rows.put_service.Goals as goal
 

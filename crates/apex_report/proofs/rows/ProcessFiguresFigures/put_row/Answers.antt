@@ -1,7 +1,8 @@
 use Rattle.std.proofs.Common.{◌++◌, ◌∙◌, ℕ, List, ap, codes}
 use Rattle.apex_history.proofs.Joined.{five_joined}
+use Rattle.apex_json.specs.Forms.{in_form}
 use Rattle.apex_machine.specs.text.Texts.{process_name}
-use Rattle.apex_report.specs.Members.{in_form, members_in, name_in}
+use Rattle.apex_report.specs.Members.{members_in, name_in}
 use Rattle.apex_report.specs.Rows.{end_in, process_members, refusal_members}
 use Rattle.apex_report.proofs.rows.ProcessFiguresFigures.put_row.Goals as goal
 
