@@ -1,10 +1,10 @@
 -- What the levels keep under a weaker step.
 use Rattle.std.proofs.Common.{◌≡◌, ℕ, zero, suc, ◌+◌, ◌<◌, ◌≤◌, ◌⊎◌, Bool, true, false, List, [], ◌∷◌, ◌++◌, length, length-append, refl, sym, ap, ◌∙◌, subst, inl, inr, arith}
 use Rattle.std.proofs.lemmas.Option.{slice_get_within}
-use Rattle.apex_explore.specs.Levels.{IsAt, IsChild, IsLevel, IsTraced, Keeps}
+use Rattle.apex_explore.specs.Levels.{IsAt, IsChild, IsLevel, IsTraced, Keeps, first_front}
 use Rattle.apex_states.specs.Lists.{AllAre}
 use Rattle.apex_explore.specs.Paths.{Leads, NoHitWithin, ReachesWithin}
-use Rattle.apex_explore.specs.Searches.{IsSearched, IsSearchedBefore, Weakens}
+use Rattle.apex_explore.specs.Searches.{AreSearched, IsSearched, IsSearchedBefore, Weakens}
 use Rattle.apex_states.specs.States.{IsKept, Reached}
 use Rattle.apex_explore.specs.Systems.{Step, goes, hits}
 use Rattle.apex_explore.specs.declared.fronts.Front.{Front}
@@ -128,15 +128,14 @@ full_at_once step first search none searched =
     nothing_within step first search.states.room (no_room step first search none searched)
 
 -- The first state is kept, unless there is no room.
-pub searched_first : (step : List ℕ → ℕ → Step (List ℕ)) (first : List ℕ) (old : Reached) (origin : Origin) (kept : Bool) (new : Reached) (front : Front)
+pub searched_first : (step : List ℕ → ℕ → Step (List ℕ)) (first : List ℕ) (old : Reached) (origin : Origin) (kept : Bool) (new : Reached)
     → old.states ≡ [] → old.origins ≡ []
     → IsKept old first origin kept new
-    → front ≡ record { at = 0; depth = 0; level_end = 1 }
-    → ((new.states ≡ []) × (new.room ≡ 0)) ⊎ IsAt step first new front
-searched_first step first old origin true new front states origins kept is =
+    → AreSearched step first new first_front
+searched_first step first old origin true new states origins kept =
     let alone = kept_first old first origin new states origins kept in
-    inr (rw (is, alone.0) (IsLevel-start step first new.origins alone.1))
-searched_first step first old origin false new front states origins (fresh, full, same) is =
+    inr (rw alone.0 (IsLevel-start step first new.origins alone.1))
+searched_first step first old origin false new states origins (fresh, full, same) =
     inl (
       ap (λ (s : Reached). s.states) same ∙ states,
       ap (λ (s : Reached). s.room) same ∙ (sym full ∙ ap length states),

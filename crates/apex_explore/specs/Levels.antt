@@ -13,6 +13,10 @@ use Rattle.apex_explore.specs.Paths.{Leads}
 use Rattle.apex_states.specs.States.{Reached}
 use Rattle.apex_explore.specs.Systems.{Step, refuses, goes, hits}
 
+-- the front of a search that has reached its first state alone
+abbrev pub first_front : Front
+first_front = record { at = 0; depth = 0; level_end = 1 }
+
 -- the front at its next state: at the end of a level the next one begins, which has all states that
 -- are there
 abbrev pub turned : Front → ℕ → Front

@@ -5,6 +5,7 @@ use Rattle.apex_explore.specs.declared.searches.Places.{Places}
 use Rattle.apex_explore.specs.declared.searches.Search.{Search}
 use Rattle.apex_explore.specs.Levels.{IsAt}
 use Rattle.apex_states.specs.Lists.{AllAre}
+use Rattle.apex_states.specs.States.{Reached}
 use Rattle.apex_explore.specs.Systems.{Step, hits}
 
 -- the new step is weaker: it does in each state what the old one does, unless that hits
@@ -16,6 +17,12 @@ Weakens {K} old new =
 abbrev pub room_of : {W : Type 0} → Search W → ℕ
 room_of search = search.states.room
 
+-- these states are those of a search by this step from this first state, level by level, as far as this
+-- front; or there is no room, not even for the first
+abbrev pub AreSearched : (List ℕ → ℕ → Step (List ℕ)) → List ℕ → Reached → Front → Type 0
+AreSearched step first reached front =
+    ((reached.states ≡ []) × (reached.room ≡ 0)) ⊎ IsAt step first reached front
+
 -- the search is over a system with states of this many words: it has only such states, and a
 -- workspace of the system
 pub record IsOver {W : Type 0} (word_count : ℕ) (is_state : List ℕ → Type 0)
@@ -26,12 +33,9 @@ pub record IsOver {W : Type 0} (word_count : ℕ) (is_state : List ℕ → Type 
   pub workspace : is_workspace search.workspace
   pub states : AllAre is_state search.states.states
 
--- the states are those of a search by this step from this first state, level by level, as far as the
--- front; or there is no room, not even for the first
+-- the states of the search are those of a search by this step from this first state, as far as its front
 abbrev pub IsSearched : {W : Type 0} → (List ℕ → ℕ → Step (List ℕ)) → List ℕ → Search W → Type 0
-IsSearched step first search =
-    ((search.states.states ≡ []) × (search.states.room ≡ 0))
-    ⊎ IsAt step first search.states search.front
+IsSearched step first search = AreSearched step first search.states search.front
 
 -- the search has states, and is as far as its front
 abbrev pub IsUnderWay : {W : Type 0} → (List ℕ → ℕ → Step (List ℕ)) → List ℕ → Search W → Type 0

@@ -8,6 +8,8 @@ use crate::parts::expand_batch;
 use crate::systems::System;
 use apex_states::{Batch, Expansion, States};
 use std::alloc::{AllocError, Global};
+use std::mem;
+use std::mem::drop;
 
 /// What one thread needs to expand states: copies of them, and a workspace of its own.
 #[derive(Drop)]
@@ -70,7 +72,7 @@ impl<W: Drop> Desk<W> {
     {
         let next = self.next.as_mut_slice();
         let made = expand_batch(alloc, system, &mut self.workspace, next, &self.batch);
-        self.made = Some(made);
+        drop(mem::replace(&mut self.made, Some(made)));
     }
 
     /// What was made at the desk, if it was not taken yet.

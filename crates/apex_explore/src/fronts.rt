@@ -1,6 +1,6 @@
 //! How far a search has come.
 ghost use Rattle.std.specs.Prelude.{◌≡◌, ◌<◌};
-ghost use Rattle.apex_explore.specs.Levels.{turned};
+ghost use Rattle.apex_explore.specs.Levels.{first_front, turned};
 
 /// The place of the state that is next, how many choices it is away from the first one, and the
 /// first place after the states that are as far away.
@@ -14,7 +14,7 @@ pub(crate) struct Front {
 impl Front {
     /// The front of a search that has found its first state alone.
     pub(crate) fn first() -> Front
-        ensures { result ≡ record { at = 0; depth = 0; level_end = 1 } }
+        ensures { result ≡ first_front }
     {
         Front {
             at: 0,

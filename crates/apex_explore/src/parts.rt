@@ -8,6 +8,7 @@ ghost use Rattle.apex_states.specs.Lists.{AllAre};
 use crate::systems::{System, Taken};
 use apex_states::{Batch, Expansion, Finds, Origin};
 use std::alloc::{AllocError, Global};
+use std::mem::drop;
 
 /// Makes each choice in the state, which is the one at `place`, until one hits: the choice. Fails only
 /// for want of memory.
@@ -72,24 +73,20 @@ pub(crate) fn expand_batch<S: System>(
     let mut finds = Finds::new(alloc, system.width())?;
     for at in 0..batch.len() {
         let place = batch.first() + at;
-        let hit = expand_state(
-            alloc,
-            system,
-            workspace,
-            batch.state(at),
-            next,
-            place,
-            &mut finds,
-        )?;
-        match hit {
-            Some(choice) => {
+        let state = batch.state(at);
+        match expand_state(alloc, system, workspace, state, next, place, &mut finds) {
+            Ok(Some(choice)) => {
                 return Ok(Expansion {
                     finds,
                     end: place,
                     hit: Some(choice),
                 });
             }
-            None => {}
+            Ok(None) => {}
+            Err(error) => {
+                drop(finds);
+                return Err(error);
+            }
         }
     }
     Ok(Expansion {

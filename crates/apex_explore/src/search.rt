@@ -12,6 +12,7 @@ use crate::systems::{System, Taken};
 use crate::watches::Watch;
 use apex_states::{Origin, States};
 use std::alloc::{AllocError, Global};
+use std::mem::drop;
 
 /// What came of the choices in one state.
 enum Expanded {
@@ -140,5 +141,7 @@ pub fn explore<S: System, V: Watch>(
         IfOk result (Says step (S.start system.now) room) }
 {
     let mut search = Search::new(alloc, system, room)?;
-    search.go_on(alloc, system, watch)
+    let answer = search.go_on(alloc, system, watch);
+    drop(search);
+    answer
 }

@@ -1,11 +1,11 @@
 //! A search that can go on after an answer.
 ghost use Rattle.std.specs.Prelude.{◌≡◌, ◌≤◌, ◌+◌, length, IfOk, IfSome, None};
 ghost use Rattle.apex_explore.specs.Answers.{Says};
-ghost use Rattle.apex_explore.specs.Levels.{Stops, turned};
+ghost use Rattle.apex_explore.specs.Levels.{Stops, first_front, turned};
 ghost use Rattle.apex_explore.specs.Parts.{Fit, IsPast};
-ghost use Rattle.apex_explore.specs.Searches.{AreLeft, IsOver, IsSearched, IsSearchedBefore, IsUnderWay, room_of};
+ghost use Rattle.apex_explore.specs.Searches.{AreLeft, AreSearched, IsOver, IsSearched, IsSearchedBefore, IsUnderWay, room_of};
 ghost use Rattle.apex_explore.specs.Systems.{step_within};
-ghost use Rattle.apex_states.specs.Lists.{IsFront};
+ghost use Rattle.apex_states.specs.Lists.{AllAre, IsFront};
 
 use crate::answers::Answer;
 use crate::fronts::Front;
@@ -16,6 +16,7 @@ use crate::taking::take_all;
 use crate::watches::Watch;
 use apex_states::{Expansion, Origin, States};
 use std::alloc::{AllocError, Global};
+use std::mem::drop;
 use std::thread::Threads;
 
 /// After this many states a search shows how far it has come.
@@ -43,6 +44,36 @@ pub struct Search<W> {
     next: Vec<u64>,
 }
 
+/// The states that a search has reached at first: the system's first one, whose words `first` has
+/// then, or none if there is no room. Fails only for want of memory.
+fn reached_first<S: System>(
+    alloc: Global,
+    system: &S,
+    first: &mut [u64],
+    room: u32,
+) -> Result<States, AllocError>
+    requires { length first.old ≡ S.word_count system.now }
+    ensures width { IfOk result (λ states. states.width ≡ S.word_count system.now) }
+    ensures states { IfOk result (λ states. AllAre (S.is_state system.now) states.states) }
+    ensures searched { let step = step_within (S.choice_count system.now) (S.step system.now) in
+        IfOk result (λ states. AreSearched step (S.start system.now) states first_front) }
+    ensures room { IfOk result (λ states. states.room ≡ room) }
+{
+    let mut states = States::new(alloc, first.len(), room)?;
+    system.first(first);
+    let nowhere = Origin {
+        parent: 0,
+        choice: 0,
+    };
+    match states.keep(alloc, first, nowhere) {
+        Ok(_) => Ok(states),
+        Err(error) => {
+            drop(states);
+            Err(error)
+        }
+    }
+}
+
 impl<W: Drop> Search<W> {
     /// A search that has reached the system's first state alone, or none if there is no room.
     ///
@@ -61,17 +92,10 @@ impl<W: Drop> Search<W> {
         ensures room { IfOk result (λ search. room_of search ≡ room) }
     {
         let width = system.width();
-        let mut states = States::new(alloc, width, room)?;
         let workspace = system.workspace(alloc)?;
         let state = vec![in alloc; 0; width]?;
         let mut next = vec![in alloc; 0; width]?;
-        let first = next.as_mut_slice();
-        system.first(first);
-        let nowhere = Origin {
-            parent: 0,
-            choice: 0,
-        };
-        let _ = states.keep(alloc, first, nowhere)?;
+        let states = reached_first(alloc, system, next.as_mut_slice(), room)?;
         Ok(Search {
             states,
             front: Front::first(),

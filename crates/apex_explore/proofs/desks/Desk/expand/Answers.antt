@@ -1,5 +1,5 @@
 -- The desk has what was made, and room for the next states.
-use Rattle.std.proofs.Common.{rules, ◌≡◌, length, refl, ap, ◌∙◌}
+use Rattle.std.proofs.Common.{rules, ◌≡◌, length, ap, ◌∙◌}
 use Rattle.std.proofs.lemmas.Result.{IfOk-weaker}
 use Rattle.apex_states.proofs.Halving.{given_back}
 use Rattle.apex_explore.proofs.desks.Desk.expand.Goals as goal
@@ -12,7 +12,7 @@ returns g c =
     let same : length made.new.next ≡ length next.items = made.auto.next ∙ ap length c.as_mut_slice-next.ensures.value in
     record {
       made = made.result;
-      is = refl;
+      is = search rules;
       expansion = made.ensures.expansion;
       desk_is = IfOk-weaker made.result _ _ (λ expansion workspace. record {
         workspace = workspace;
