@@ -61,24 +61,36 @@ abbrev pub cores_warned : Table → List Warning
 cores_warned table =
     each_below (λ core. warned (core_is_unused table core) (UnusedCore core)) table.cores
 
--- all of them
-abbrev pub warnings : Table → List Warning
-warnings table =
+-- all about processes
+abbrev pub about_processes : Table → List Warning
+about_processes table =
     processes_warned table EmptyScript
     ++ processes_warned table NotStarted
     ++ processes_warned table CapacityAbovePeriod
     ++ processes_warned table NoPeriodicWait
     ++ processes_warned table MuchWork
-    ++ steps_warned table MessageRefused
+
+-- all about steps
+abbrev pub about_steps : Table → List Warning
+about_steps table =
+    steps_warned table MessageRefused
     ++ steps_warned table AperiodicWait
     ++ steps_warned table SuspendsPeriodic
     ++ steps_warned table LowCeiling
     ++ steps_warned table NotReleased
     ++ steps_warned table WaitsAsOwner
     ++ steps_warned table NeverAnswered
-    ++ objects_warned table Semaphores
+
+-- all about objects
+abbrev pub about_objects : Table → List Warning
+about_objects table =
+    objects_warned table Semaphores
     ++ objects_warned table Buffers
     ++ objects_warned table Blackboards
     ++ objects_warned table EventFlags
     ++ objects_warned table Mutexes
-    ++ cores_warned table
+
+-- all of them
+abbrev pub warnings : Table → List Warning
+warnings table =
+    about_processes table ++ about_steps table ++ about_objects table ++ cores_warned table

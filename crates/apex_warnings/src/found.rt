@@ -1,6 +1,6 @@
 //! The warnings that are found, kind by kind.
 ghost use Rattle.std.specs.Prelude.{◌≡◌, ◌<◌, ◌++◌, [], length, IfOk};
-ghost use Rattle.apex_warnings.specs.Warnings.{cores_warned, init_warned, objects_warned, processes_warned, script_warned, steps_warned, warned};
+ghost use Rattle.apex_warnings.specs.Warnings.{about_objects, about_processes, about_steps, cores_warned, init_warned, objects_warned, processes_warned, script_warned, steps_warned, warned, warnings};
 ghost use Rattle.apex_warnings.specs.Cores.{core_is_unused, some_process_stays};
 
 use crate::acts::Act;
@@ -79,7 +79,7 @@ impl Found {
     }
 
     /// Adds the warnings of this kind about processes.
-    pub fn add_processes(
+    fn add_processes(
         &mut self,
         steps: &TableSteps,
         warning: ProcessWarning,
@@ -129,7 +129,7 @@ impl Found {
     }
 
     /// Adds the warnings of this kind about steps of the init list, and of the scripts in order.
-    pub fn add_steps(&mut self, steps: &TableSteps, warning: StepWarning) -> Result<(), AllocError>
+    fn add_steps(&mut self, steps: &TableSteps, warning: StepWarning) -> Result<(), AllocError>
         ensures { IfOk result (λ _. self.new ≡ self.old ++ steps_warned steps.now warning) }
     {
         self.add_init(steps, warning)?;
@@ -140,7 +140,7 @@ impl Found {
     }
 
     /// Adds a warning for each unused object of the group.
-    pub fn add_objects(&mut self, steps: &TableSteps, group: Group) -> Result<(), AllocError>
+    fn add_objects(&mut self, steps: &TableSteps, group: Group) -> Result<(), AllocError>
         ensures { IfOk result (λ _. self.new ≡ self.old ++ objects_warned steps.now group) }
     {
         for place in 0..group.count(steps.table()) {
@@ -152,7 +152,7 @@ impl Found {
     }
 
     /// Adds a warning for each unused core.
-    pub fn add_cores(&mut self, steps: &TableSteps) -> Result<(), AllocError>
+    fn add_cores(&mut self, steps: &TableSteps) -> Result<(), AllocError>
         ensures { IfOk result (λ _. self.new ≡ self.old ++ cores_warned steps.now) }
     {
         for number in 0..steps.table().cores() {
@@ -160,6 +160,59 @@ impl Found {
             let applies = core_is_unused(steps, core);
             self.add(applies, Warning::UnusedCore(core))?;
         }
+        Ok(())
+    }
+
+    /// Adds the warnings of all kinds about processes.
+    #[tactic(auto, using(std::proofs::Common::append_assoc))]
+    fn add_all_of_processes(&mut self, steps: &TableSteps) -> Result<(), AllocError>
+        ensures { IfOk result (λ _. self.new ≡ self.old ++ about_processes steps.now) }
+    {
+        self.add_processes(steps, ProcessWarning::EmptyScript)?;
+        self.add_processes(steps, ProcessWarning::NotStarted)?;
+        self.add_processes(steps, ProcessWarning::CapacityAbovePeriod)?;
+        self.add_processes(steps, ProcessWarning::NoPeriodicWait)?;
+        self.add_processes(steps, ProcessWarning::MuchWork)?;
+        Ok(())
+    }
+
+    /// Adds the warnings of all kinds about steps.
+    #[tactic(auto, using(std::proofs::Common::append_assoc))]
+    fn add_all_of_steps(&mut self, steps: &TableSteps) -> Result<(), AllocError>
+        ensures { IfOk result (λ _. self.new ≡ self.old ++ about_steps steps.now) }
+    {
+        self.add_steps(steps, StepWarning::MessageRefused)?;
+        self.add_steps(steps, StepWarning::AperiodicWait)?;
+        self.add_steps(steps, StepWarning::SuspendsPeriodic)?;
+        self.add_steps(steps, StepWarning::LowCeiling)?;
+        self.add_steps(steps, StepWarning::NotReleased)?;
+        self.add_steps(steps, StepWarning::WaitsAsOwner)?;
+        self.add_steps(steps, StepWarning::NeverAnswered)?;
+        Ok(())
+    }
+
+    /// Adds the warnings of all kinds about objects.
+    #[tactic(auto, using(std::proofs::Common::append_assoc))]
+    fn add_all_of_objects(&mut self, steps: &TableSteps) -> Result<(), AllocError>
+        ensures { IfOk result (λ _. self.new ≡ self.old ++ about_objects steps.now) }
+    {
+        self.add_objects(steps, Group::Semaphores)?;
+        self.add_objects(steps, Group::Buffers)?;
+        self.add_objects(steps, Group::Blackboards)?;
+        self.add_objects(steps, Group::EventFlags)?;
+        self.add_objects(steps, Group::Mutexes)?;
+        Ok(())
+    }
+
+    /// Adds the warnings of all kinds, in their order.
+    #[tactic(auto, using(std::proofs::Common::append_assoc))]
+    pub fn add_all(&mut self, steps: &TableSteps) -> Result<(), AllocError>
+        ensures { IfOk result (λ _. self.new ≡ self.old ++ warnings steps.now) }
+    {
+        self.add_all_of_processes(steps)?;
+        self.add_all_of_steps(steps)?;
+        self.add_all_of_objects(steps)?;
+        self.add_cores(steps)?;
         Ok(())
     }
 }

@@ -10,6 +10,7 @@ use crate::steps::TableSteps;
 use apex_configs::Table;
 use apex_types::{CoreId, Origin, ProcessId};
 use std::alloc::{AllocError, Global};
+use std::mem::drop;
 
 /// A warning about a table: what it can hardly mean, and where (this profile). Its text has the
 /// place and the reason; processes, steps and objects are counted from 1 there.
@@ -31,23 +32,8 @@ pub fn lint(alloc: Global, table: &Table) -> Result<Vec<Warning>, AllocError>
 {
     let steps = TableSteps::of(alloc, table)?;
     let mut found = Found::new(alloc);
-    found.add_processes(&steps, ProcessWarning::EmptyScript)?;
-    found.add_processes(&steps, ProcessWarning::NotStarted)?;
-    found.add_processes(&steps, ProcessWarning::CapacityAbovePeriod)?;
-    found.add_processes(&steps, ProcessWarning::NoPeriodicWait)?;
-    found.add_processes(&steps, ProcessWarning::MuchWork)?;
-    found.add_steps(&steps, StepWarning::MessageRefused)?;
-    found.add_steps(&steps, StepWarning::AperiodicWait)?;
-    found.add_steps(&steps, StepWarning::SuspendsPeriodic)?;
-    found.add_steps(&steps, StepWarning::LowCeiling)?;
-    found.add_steps(&steps, StepWarning::NotReleased)?;
-    found.add_steps(&steps, StepWarning::WaitsAsOwner)?;
-    found.add_steps(&steps, StepWarning::NeverAnswered)?;
-    found.add_objects(&steps, Group::Semaphores)?;
-    found.add_objects(&steps, Group::Buffers)?;
-    found.add_objects(&steps, Group::Blackboards)?;
-    found.add_objects(&steps, Group::EventFlags)?;
-    found.add_objects(&steps, Group::Mutexes)?;
-    found.add_cores(&steps)?;
+    let added = found.add_all(&steps);
+    drop(steps);
+    added?;
     Ok(found.into_warnings())
 }
