@@ -78,89 +78,52 @@ ceiling = 30
 discipline = "FIFO"
 "#;
 
-/// Each turn by its core, with the reason before it.
-const TURNS: [(u8, &str); 38] = [
-    (
-        1,
-        "IDLE: the mode is COLD_START and no init step is due on the core",
-    ),
-    (0, "init step 0: no guard of the service holds"),
-    (
-        0,
-        "init step 1: NO_ACTION: the named process or object is created already",
-    ),
-    (
-        0,
-        "init step 2: INVALID_PARAM: the named process or object is not created",
-    ),
-    (0, "init step 3: no guard of the service holds"),
-    (0, "init step 4: no guard of the service holds"),
-    (0, "init step 5: no guard of the service holds"),
-    (0, "init step 6: no guard of the service holds"),
-    (0, "init step 7: no guard of the service holds"),
-    (0, "init step 8: no guard of the service holds"),
-    (0, "init step 9: no guard of the service holds"),
-    (0, "init step 10: no guard of the service holds"),
-    (0, "OWNER step 0: no guard of the service holds"),
-    (
-        0,
-        "OWNER step 1: INVALID_MODE: the caller owns a mutex and the timeout is not 0",
-    ),
-    (
-        0,
-        "OWNER step 2: INVALID_MODE: the caller owns another mutex, but not this one, and the timeout is not 0",
-    ),
-    (
-        0,
-        "OWNER step 3: INVALID_MODE: the caller does not own the mutex, and owns as many as it may",
-    ),
-    (0, "OWNER step 4: INVALID_MODE: the caller owns a mutex"),
-    (0, "OWNER step 5: no guard of the service holds"),
-    (
-        0,
-        "OWNER step 6: INVALID_MODE: the caller does not own the mutex",
-    ),
-    (0, "OWNER step 7: INVALID_PARAM: the timeout is infinite"),
-    (
-        0,
-        "OWNER step 8: INVALID_PARAM: the named process is the caller",
-    ),
-    (
-        0,
-        "OWNER step 9: NO_ACTION: no process waits and the value is the maximum",
-    ),
-    (0, "OWNER step 10: INVALID_MODE: the mode is NORMAL"),
-    (
-        0,
-        "OWNER step 11: INVALID_PARAM: the priority is not 1 to 239",
-    ),
-    (1, "OTHER step 0: no guard of the service holds"),
-    (
-        1,
-        "OTHER: DONE: the process has kept the core since the work began",
-    ),
-    (1, "OTHER step 1: INVALID_MODE: the caller is aperiodic"),
-    (
-        1,
-        "OTHER step 2: NO_ACTION: the capacity of the caller is infinite",
-    ),
-    (1, "OTHER step 3: no guard of the service holds"),
-    (
-        1,
-        "OTHER step 4: NOT_AVAILABLE: the value of the semaphore is 0",
-    ),
-    (0, "OWNER step 12: BLOCKED: the value of the semaphore is 0"),
-    (0, "IDLE: no eligible process is bound to the core"),
-    (1, "OTHER step 5: no guard of the service holds"),
-    (0, "OWNER step 13: no guard of the service holds"),
-    (0, "IDLE: no eligible process is bound to the core"),
-    (1, "OTHER step 6: no guard of the service holds"),
-    (1, "IDLE: the mode is IDLE"),
-    (0, "IDLE: the mode is IDLE"),
-];
+/// Each turn by its core, with the reason before it, a line each.
+const TURNS: &str = "\
+1 IDLE: the mode is COLD_START and no init step is due on the core
+0 init step 0: no guard of the service holds
+0 init step 1: NO_ACTION: the named process or object is created already
+0 init step 2: INVALID_PARAM: the named process or object is not created
+0 init step 3: no guard of the service holds
+0 init step 4: no guard of the service holds
+0 init step 5: no guard of the service holds
+0 init step 6: no guard of the service holds
+0 init step 7: no guard of the service holds
+0 init step 8: no guard of the service holds
+0 init step 9: no guard of the service holds
+0 init step 10: no guard of the service holds
+0 OWNER step 0: no guard of the service holds
+0 OWNER step 1: INVALID_MODE: the caller owns a mutex and the timeout is not 0
+0 OWNER step 2: INVALID_MODE: the caller owns another mutex, but not this one, and the timeout is not 0
+0 OWNER step 3: INVALID_MODE: the caller does not own the mutex, and owns as many as it may
+0 OWNER step 4: INVALID_MODE: the caller owns a mutex
+0 OWNER step 5: no guard of the service holds
+0 OWNER step 6: INVALID_MODE: the caller does not own the mutex
+0 OWNER step 7: INVALID_PARAM: the timeout is infinite
+0 OWNER step 8: INVALID_PARAM: the named process is the caller
+0 OWNER step 9: NO_ACTION: no process waits and the value is the maximum
+0 OWNER step 10: INVALID_MODE: the mode is NORMAL
+0 OWNER step 11: INVALID_PARAM: the priority is not 1 to 239
+1 OTHER step 0: no guard of the service holds
+1 OTHER: DONE: the process has kept the core since the work began
+1 OTHER step 1: INVALID_MODE: the caller is aperiodic
+1 OTHER step 2: NO_ACTION: the capacity of the caller is infinite
+1 OTHER step 3: no guard of the service holds
+1 OTHER step 4: NOT_AVAILABLE: the value of the semaphore is 0
+0 OWNER step 12: BLOCKED: the value of the semaphore is 0
+0 IDLE: no eligible process is bound to the core
+1 OTHER step 5: no guard of the service holds
+0 OWNER step 13: no guard of the service holds
+0 IDLE: no eligible process is bound to the core
+1 OTHER step 6: no guard of the service holds
+1 IDLE: the mode is IDLE
+0 IDLE: the mode is IDLE
+";
 
-/// Takes a turn of the core of this number, before which its reason is this text.
-fn has_reason<R: Abort>(rt: &R, kernel: &mut Kernel<QueueStore>, number: u8, text: &str) {
+/// Takes a turn of the core of this line, before which its reason is the text behind the core.
+fn has_reason<R: Abort>(rt: &R, kernel: &mut Kernel<QueueStore>, line: &str) {
+    let (core, text) = line.split_once(' ').expect(rt, "a core and a reason");
+    let number: u8 = core.parse().expect(rt, "a core");
     assert!(rt; number < kernel.table().cores());
     let core = CoreId::new(number);
     let reason = reason_of(kernel, Event::Turn(core)).text(kernel.table());
@@ -172,8 +135,8 @@ fn has_reason<R: Abort>(rt: &R, kernel: &mut Kernel<QueueStore>, number: u8, tex
 fn each_turn_has_its_reason(rt: HostRuntime) {
     let table = read_table(rt.alloc(), TABLE.as_bytes()).expect(&rt, "the table is lawful");
     let mut kernel = booted(&rt, rt.alloc(), table);
-    for (number, text) in TURNS {
-        has_reason(&rt, &mut kernel, number, text);
+    for line in TURNS.lines() {
+        has_reason(&rt, &mut kernel, line);
     }
     drop(kernel);
 }

@@ -1,13 +1,14 @@
 //! A run without a schedule: its events are those that the rules of the pace give.
 
 use crate::kernels::booted;
-use apex_dispatch::Kernel;
-use apex_history::Entries;
+use crate::papers::paper;
+use apex_dispatch::{Kernel, events_in};
+use apex_history::{Counted, FailAt};
 use apex_pace::Pace;
 use apex_process::QueueStore;
 use apex_rounds::Rounds;
+use apex_schedules::print_schedule;
 use apex_table::read_table;
-use apex_types::{LentEntry, Reply, Who};
 use std::alloc::Global;
 use std::mem::drop;
 use std::process::Abort;
@@ -27,56 +28,18 @@ loop = true
 script = ["work 3", "GET_TIME", "PERIODIC_WAIT"]
 "#;
 
-/// A turn of the core, or a tick.
-#[derive(Clone, Copy, PartialEq, Eq)]
-enum Made {
-    Turn,
-    Tick(u32),
-}
-
 /// The four init steps; and from each release on the turn that begins the work, the tick to its end,
 /// the two turns that the core has then, one tick, the turn that they left over, and the tick to
 /// the next release. The last tick stops at 18.
-const MADE: [Made; 20] = [
-    Made::Turn,
-    Made::Turn,
-    Made::Turn,
-    Made::Turn,
-    Made::Turn,
-    Made::Tick(3),
-    Made::Turn,
-    Made::Turn,
-    Made::Tick(1),
-    Made::Turn,
-    Made::Tick(4),
-    Made::Turn,
-    Made::Tick(3),
-    Made::Turn,
-    Made::Turn,
-    Made::Tick(1),
-    Made::Turn,
-    Made::Tick(4),
-    Made::Turn,
-    Made::Tick(2),
-];
+const SCHEDULE: &str = "0*5 t3 0*2 t1 0 t4 0 t3 0*2 t1 0 t4 0 t2";
 
-/// What made the entry.
-fn made_of(entry: &LentEntry<'_>) -> Made {
-    match (entry.who, entry.reply) {
-        (Who::Ticker, Reply::Advanced(asked, _)) => Made::Tick(asked),
-        _ => Made::Turn,
-    }
-}
-
-/// Whether these made the entries.
-fn are_made(entries: Entries<'_>, wanted: &[Made]) -> bool {
-    let mut made = wanted.iter();
-    for entry in entries {
-        if made.next() != Some(&made_of(&entry)) {
-            return false;
-        }
-    }
-    made.next().is_none()
+/// The schedule that has the events of the kernel's history.
+fn schedule_of<R: Abort>(rt: &R, alloc: Global, kernel: &Kernel<QueueStore>) -> FailAt {
+    let events = events_in(alloc, kernel).expect(rt, "memory");
+    let mut paper = paper(rt, alloc, 64, 0);
+    print_schedule(events.as_slice(), &mut Counted::new(&mut paper)).expect(rt, "room for it");
+    drop(events);
+    paper
 }
 
 /// The kernel of the table until this time, at two turns a tick.
@@ -95,6 +58,7 @@ fn run_until<R: Abort>(rt: &R, alloc: Global, time: u64) -> Kernel<QueueStore> {
 fn a_pace_gives_the_schedule(rt: HostRuntime) {
     let kernel = run_until(&rt, rt.alloc(), 18);
     assert!(&rt; kernel.now() == 18);
-    assert!(&rt; are_made(kernel.entries(), &MADE));
+    let paper = schedule_of(&rt, rt.alloc(), &kernel);
+    assert!(&rt; paper.held() == SCHEDULE.as_bytes());
     drop(kernel);
 }
