@@ -1,259 +1,274 @@
 //! The text of a fault: what it is about, what was given, and what is wanted.
 use crate::mending::most_at;
-use crate::offers::{offer, offer_key, offer_service};
-use crate::paths::{found, place_path, subject_path};
+use crate::offers::{put_no_service, put_offer, put_other_key};
+use crate::paths::{found, subject_path};
 use crate::shown::{
-    first_named, name_part, names_in, other_key, part_text, shown, shown_text, word_at, words_of,
+    first_named, has_empty_word, names_in, other_key, put_name, put_part, put_text, put_value,
+    word_at,
 };
-use crate::wanted::{kind_word, section_of, shape_word, wanted_at, wanted_name, wanted_word};
-use apex_calls::{Row, Shape, row_of_word};
+use crate::wanted::{
+    kind_word, put_wanted_at, put_wanted_name, put_wanted_word, section_of, shape_word,
+};
+use crate::wordings::Wording;
+use apex_calls::{Kind, Row, Shape, row_of_word};
 use apex_types::{MOST_NAME, MOST_PROCESSES, MOST_PROCESSES_IN_ONE};
 use apex_words::{Key, Part, Place, Section, Subject, TableFault};
 use std::alloc::{AllocError, Global};
 use toml::Value;
 
-/// Why a text is no name, or no reason if it is one.
-fn why_no_name(alloc: Global, name: &str) -> Result<String, AllocError> {
+/// Puts why a text is no name, if it is none.
+fn put_why_no_name(text: &mut Wording, name: &str) {
     let count = name.len();
     if count < 1 || count > MOST_NAME {
-        return format!(in alloc; ", and this one has {count}");
+        text.put(", and this one has ");
+        text.put_number(count);
+        return;
     }
-    match name
+    if let Some(place) = name
         .as_bytes()
         .iter()
         .position(|byte| *byte < 0x21 || *byte > 0x7e)
     {
-        Some(place) => {
-            let number = place.saturating_add(1);
-            format!(in alloc; ", and byte {number} is another one")
-        }
-        None => Ok(String::new(alloc)),
+        text.put_number_between(", and byte ", place.saturating_add(1), " is another one");
     }
 }
 
-/// What was given, and what is wanted in its place.
-fn given_and_wanted(alloc: Global, given: &str, wanted: &str) -> Result<String, AllocError> {
-    format!(in alloc; "{given} is given; {wanted} is wanted")
+/// Puts what is wanted in place of a text that is no name.
+fn put_bad_name(text: &mut Wording, name: &str) {
+    put_text(text, name);
+    text.put(" is given; ");
+    put_wanted_name(text);
+    text.put(" is wanted");
+    put_why_no_name(text, name);
 }
 
-/// What is wanted in place of a text that is no name.
-fn bad_name_text(alloc: Global, name: &str) -> Result<String, AllocError> {
-    let given = shown_text(alloc, name)?;
-    let wanted = wanted_name(alloc)?;
-    let why = why_no_name(alloc, name)?;
-    format!(in alloc; "{given} is given; {wanted} is wanted{why}")
+/// Puts that no entry of this kind has the name, and which one is near to it.
+fn put_unknown_name(text: &mut Wording, tree: &Value, kind: Kind, name: &str) {
+    text.put_between("no ", kind_word(kind), " of the table has the name ");
+    put_text(text, name);
+    match names_in(text.alloc(), tree, section_of(kind)) {
+        Ok(names) => put_offer(text, name, &names),
+        Err(_) => text.refuse(),
+    }
 }
 
-/// What is wanted of the word at this place of the step, behind its service.
-fn argument_text(
-    alloc: Global,
-    tree: &Value,
-    fault: TableFault,
-    shape: Shape,
-    word: &str,
-) -> Result<String, AllocError> {
-    let given = shown_text(alloc, word)?;
+/// Puts what is wanted of the word at this place of the step, behind its service.
+fn put_argument(text: &mut Wording, tree: &Value, fault: TableFault, shape: Shape, word: &str) {
     match (shape, fault) {
         (Shape::Entry(kind), TableFault::UnknownName(_)) => {
-            let names = names_in(alloc, tree, section_of(kind))?;
-            let kind = kind_word(kind);
-            let offer = offer(alloc, word, &names)?;
-            format!(in alloc; "no {kind} of the table has the name {given}{offer}")
+            put_unknown_name(text, tree, kind, word);
         }
-        (Shape::Named(_), TableFault::BadName(_)) => bad_name_text(alloc, word),
+        (Shape::Named(_), TableFault::BadName(_)) => put_bad_name(text, word),
         _ => {
-            let wanted = wanted_word(alloc, shape)?;
-            given_and_wanted(alloc, given.as_str(), wanted.as_str())
+            put_text(text, word);
+            text.put(" is given; ");
+            put_wanted_word(text, shape);
+            text.put(" is wanted");
         }
     }
 }
 
-/// What is wanted of the word at this place of the step.
-fn word_text(
-    alloc: Global,
+/// Puts what is wanted of the word at this place of the step.
+fn put_word(
+    text: &mut Wording,
     tree: &Value,
     fault: TableFault,
     step: Option<&Value>,
     place: usize,
-) -> Result<String, AllocError> {
-    let words = words_of(alloc, step)?;
-    let service = word_at(&words, 0);
+) {
+    let service = word_at(step, 0);
     if let TableFault::BadInitStep(_) = fault {
-        return format!(in alloc; "an init list may not have {service}; only a script may");
-    }
-    if place == 0 {
-        return offer_service(alloc, service);
-    }
-    let Some(Row { shapes, .. }) = row_of_word(service) else {
-        return Ok(String::new(alloc));
-    };
-    match shapes.get(place - 1) {
-        Some(shape) => argument_text(alloc, tree, fault, *shape, word_at(&words, place)),
-        None => Ok(String::new(alloc)),
+        text.put_between("an init list may not have ", service, "; only a script may");
+    } else if place == 0 {
+        put_no_service(text, service);
+    } else if let Some(row) = row_of_word(service)
+        && let Some(shape) = row.shapes.get(place - 1)
+    {
+        put_argument(text, tree, fault, *shape, word_at(step, place));
     }
 }
 
-/// The words that a step has behind its service, in short.
-fn arguments_text(alloc: Global, row: &Row) -> Result<String, AllocError> {
-    let service = row.word;
-    let count = row.shapes.len();
-    let mut text = match count {
-        0 => format!(in alloc; "no word is wanted behind {service}")?,
-        1 => format!(in alloc; "1 word is wanted behind {service}:")?,
-        _ => format!(in alloc; "{count} words are wanted behind {service}:")?,
-    };
-    let mut front = " ";
+/// Puts the words that a step has behind its service, in short.
+fn put_arguments(text: &mut Wording, row: &Row) {
+    match row.shapes.len() {
+        0 => text.put("no word is"),
+        1 => text.put("1 word is"),
+        count => {
+            text.put_number(count);
+            text.put(" words are");
+        }
+    }
+    text.put(" wanted behind ");
+    text.put(row.word);
+    let mut front = ": ";
     for shape in row.shapes {
-        text.push_str(front)?;
-        text.push_str(shape_word(*shape))?;
+        text.put(front);
+        text.put(shape_word(*shape));
         front = ", ";
     }
-    Ok(text)
 }
 
-/// What is wanted of the whole step.
-fn step_text(alloc: Global, step: Option<&Value>) -> Result<String, AllocError> {
-    let Some(value) = step else {
-        return String::from_str(alloc, "a text is wanted");
-    };
-    let given = shown(alloc, value)?;
-    let words = words_of(alloc, step)?;
-    match row_of_word(word_at(&words, 0)) {
-        Some(_) if words.iter().any(|word| word.is_empty()) => format!(in alloc;
-            "{given} is given; one space is wanted between two words, and none behind the last one"
-        ),
-        Some(row) => {
-            let arguments = arguments_text(alloc, row)?;
-            format!(in alloc; "{given} is given; {arguments}")
+/// Puts what is given, if anything is.
+fn put_given(text: &mut Wording, value: Option<&Value>) {
+    match value {
+        Some(value) => {
+            put_value(text, value);
+            text.put(" is given; ");
         }
-        None => given_and_wanted(alloc, given.as_str(), "a text"),
+        None => text.put("it is missing; "),
     }
 }
 
-/// What is wanted at a key.
-fn key_text(
-    alloc: Global,
+/// Puts what is wanted of the whole step.
+fn put_step(text: &mut Wording, step: Option<&Value>) {
+    let Some(value) = step else {
+        text.put("a text is wanted");
+        return;
+    };
+    put_given(text, step);
+    match row_of_word(word_at(step, 0)) {
+        Some(_) if has_empty_word(value) => {
+            text.put("one space is wanted between two words, and none behind the last one");
+        }
+        Some(row) => put_arguments(text, row),
+        None => text.put("a text is wanted"),
+    }
+}
+
+/// Puts what is wanted at a key.
+fn put_key(
+    text: &mut Wording,
     tree: &Value,
     fault: TableFault,
-    subject: Subject,
+    place: Place,
     key: Key,
     value: Option<&Value>,
-) -> Result<String, AllocError> {
-    let place = subject.place;
-    let path = place_path(alloc, place.section, place.number)?;
-    let wanted = wanted_at(alloc, tree, place.section, key, found(tree, &path))?;
-    let Some(value) = value else {
-        return format!(in alloc; "it is missing; {wanted} is wanted");
-    };
+) {
     match (fault, value) {
-        (TableFault::BadName(_), Value::String(name)) => bad_name_text(alloc, name.as_str()),
-        (TableFault::OutOfRange(_), Value::Array(_)) => {
-            String::from_str(alloc, "it is empty, and a script that loops has a step")
+        (TableFault::BadName(_), Some(Value::String(name))) => put_bad_name(text, name.as_str()),
+        (TableFault::OutOfRange(_), Some(Value::Array(_))) => {
+            text.put("it is empty, and a script that loops has a step");
         }
         _ => {
-            let given = shown(alloc, value)?;
-            given_and_wanted(alloc, given.as_str(), wanted.as_str())
+            put_given(text, value);
+            put_wanted_at(text, tree, place, key);
+            text.put(" is wanted");
         }
     }
 }
 
-/// The entry that has the name too.
-fn double_name_text(
-    alloc: Global,
-    tree: &Value,
-    place: Place,
-    value: Option<&Value>,
-) -> Result<String, AllocError> {
-    let section = place.section.word();
+/// Puts which entry has the name too.
+fn put_double_name(text: &mut Wording, tree: &Value, place: Place, value: Option<&Value>) {
     let Some(Value::String(name)) = value else {
-        return String::from_str(alloc, "another entry has the name too");
+        text.put("another entry has the name too");
+        return;
     };
-    let number = first_named(tree, place.section, name.as_str());
-    let given = shown_text(alloc, name.as_str())?;
-    format!(in alloc; "{given} is given; {section} {number} has this name too")
+    put_text(text, name.as_str());
+    text.put_between(" is given; ", place.section.word(), " ");
+    text.put_number(first_named(tree, place.section, name.as_str()));
+    text.put(" has this name too");
 }
 
-/// What is wanted of a section or of an entry.
-fn whole_text(alloc: Global, place: Place, value: Option<&Value>) -> Result<String, AllocError> {
+/// Puts what is wanted of a section or of an entry.
+fn put_whole(text: &mut Wording, place: Place, value: Option<&Value>) {
     let section = place.section.word();
-    let Some(value) = value else {
-        return format!(in alloc; "there is none; at least one is wanted, as [[{section}]]");
-    };
-    if let Value::Array(items) = value
-        && items.is_empty()
-    {
-        return format!(in alloc; "there is none; at least one is wanted, as [[{section}]]");
+    if value.is_none() || matches!(value, Some(Value::Array(items)) if items.is_empty()) {
+        text.put_between(
+            "there is none; at least one is wanted, as [[",
+            section,
+            "]]",
+        );
+        return;
     }
-    let given = shown(alloc, value)?;
-    match place.number {
-        0 if place.section == Section::Init => {
-            given_and_wanted(alloc, given.as_str(), "an array of texts")
-        }
-        0 => format!(in alloc; "{given} is given; an array of tables is wanted, as [[{section}]]"),
-        _ => given_and_wanted(alloc, given.as_str(), "a table"),
+    put_given(text, value);
+    match (place.number, place.section) {
+        (0, Section::Init) => text.put("an array of texts is wanted"),
+        (0, _) => text.put_between("an array of tables is wanted, as [[", section, "]]"),
+        _ => text.put("a table is wanted"),
     }
 }
 
-/// How many entries or steps are too many.
-fn too_many_text(
-    alloc: Global,
+/// Puts how many processes are wanted, by the profile of the table.
+fn put_most_processes(text: &mut Wording, tree: &Value) {
+    if let Some(Value::Integer(2)) = tree.get("profile") {
+        text.put_number(MOST_PROCESSES);
+        text.put(" are wanted");
+    } else {
+        text.put_number(MOST_PROCESSES_IN_ONE);
+        text.put_number_between(" are wanted, or ", MOST_PROCESSES, " with profile = 2");
+    }
+}
+
+/// Puts how many entries or steps are too many.
+fn put_too_many(
+    text: &mut Wording,
     tree: &Value,
     section: Section,
     part: Part,
     value: Option<&Value>,
-) -> Result<String, AllocError> {
+) {
     let given = match value {
         Some(Value::Array(items)) => items.len(),
         _ => 0,
     };
-    if section == Section::Process && part == Part::Whole {
-        return match tree.get("profile") {
-            Some(Value::Integer(2)) => format!(in alloc;
-                "{given} are given; at most {MOST_PROCESSES} are wanted"
-            ),
-            _ => format!(in alloc;
-                "{given} are given; at most {MOST_PROCESSES_IN_ONE} are wanted, or {MOST_PROCESSES} with profile = 2"
-            ),
-        };
+    text.put_number(given);
+    match (section, part) {
+        (Section::Init, _) | (_, Part::Key(_)) => text.put(" steps are given; at most "),
+        _ => text.put(" are given; at most "),
     }
-    let most = most_at(section, part);
-    let things = match (section, part) {
-        (Section::Init, _) | (_, Part::Key(_)) => "steps ",
-        _ => "",
-    };
-    format!(in alloc; "{given} {things}are given; at most {most} are wanted")
+    match (section, part) {
+        (Section::Process, Part::Whole) => put_most_processes(text, tree),
+        _ => {
+            text.put_number(most_at(section, part));
+            text.put(" are wanted");
+        }
+    }
 }
 
-/// What is wrong, by the fault.
-fn why(
-    alloc: Global,
+/// Puts what is wrong, by the fault.
+fn put_why(
+    text: &mut Wording,
     tree: &Value,
     fault: TableFault,
     subject: Subject,
     value: Option<&Value>,
-) -> Result<String, AllocError> {
-    let section = subject.place.section;
+) {
+    let place = subject.place;
+    let section = place.section;
     match (fault, subject.part) {
-        (TableFault::TooMany(_), part) => too_many_text(alloc, tree, section, part, value),
-        (TableFault::DoubleName(_), _) => double_name_text(alloc, tree, subject.place, value),
-        (_, Part::Whole) => whole_text(alloc, subject.place, value),
-        (_, Part::Key(key)) => key_text(alloc, tree, fault, subject, key, value),
-        (_, Part::OtherKey(place)) => offer_key(alloc, section, other_key(value, place)),
-        (_, Part::Step(_)) => step_text(alloc, value),
-        (_, Part::Word(_, word)) => word_text(alloc, tree, fault, value, word),
+        (TableFault::TooMany(_), part) => put_too_many(text, tree, section, part, value),
+        (TableFault::DoubleName(_), _) => put_double_name(text, tree, place, value),
+        (_, Part::Whole) => put_whole(text, place, value),
+        (_, Part::Key(key)) => put_key(text, tree, fault, place, key, value),
+        (_, Part::OtherKey(number)) => put_other_key(text, section, other_key(value, number)),
+        (_, Part::Step(_)) => put_step(text, value),
+        (_, Part::Word(_, word)) => put_word(text, tree, fault, value, word),
     }
+}
+
+/// Puts the text of the fault that is about this value.
+fn put_fault(
+    text: &mut Wording,
+    tree: &Value,
+    fault: TableFault,
+    subject: Subject,
+    value: Option<&Value>,
+) {
+    put_name(text, tree, subject.place);
+    put_part(text, subject.place.section, subject.part, value);
+    text.put(": ");
+    put_why(text, tree, fault, subject, value);
 }
 
 /// The text of a fault of the tree behind the fault's place: which part of it is at fault, what was
 /// given, and what is wanted.
 pub fn explain(alloc: Global, tree: &Value, fault: TableFault) -> Result<String, AllocError> {
-    let Some(subject) = fault.parts().1 else {
-        return Ok(String::new(alloc));
-    };
-    let path = subject_path(alloc, subject)?;
-    let value = found(tree, &path);
-    let name = name_part(alloc, tree, subject.place)?;
-    let part = part_text(alloc, subject.place.section, subject.part, value)?;
-    let why = why(alloc, tree, fault, subject, value)?;
-    format!(in alloc; "{name}{part}: {why}")
+    let mut text = Wording::new(alloc);
+    if let Some(subject) = fault.parts().1 {
+        match subject_path(alloc, subject) {
+            Ok(path) => put_fault(&mut text, tree, fault, subject, found(tree, &path)),
+            Err(_) => text.refuse(),
+        }
+    }
+    text.finish()
 }

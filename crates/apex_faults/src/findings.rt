@@ -12,7 +12,7 @@ use crate::mending::mended;
 use crate::paths::{found, place_path};
 use crate::shown::other_key;
 use apex_table::read_table;
-use apex_words::{Part, Subject, TableFault};
+use apex_words::{Part, TableFault};
 use std::alloc::{AllocError, Global};
 use toml::Value;
 
@@ -29,6 +29,26 @@ pub struct Finding {
     pub detail: String,
 }
 
+/// Where the fault of the text whose tree this is begins.
+fn location_in(
+    alloc: Global,
+    text: &[u8],
+    tree: &Value,
+    fault: TableFault,
+) -> Result<Location, AllocError>
+    ensures { IfOk result (λ location. IsLocationIn text.now location) }
+{
+    let Some(subject) = fault.parts().1 else {
+        return Ok(location_after(&[]));
+    };
+    let path = place_path(alloc, subject.place.section, subject.place.number)?;
+    let other = match subject.part {
+        Part::OtherKey(place) => other_key(found(tree, &path), place),
+        _ => "",
+    };
+    Ok(locate(text, subject, other))
+}
+
 /// The fault of the text whose tree this is, with its place and its text.
 fn finding_of(
     alloc: Global,
@@ -39,18 +59,8 @@ fn finding_of(
     ensures fault { IfOk result (λ f. f.fault ≡ fault) }
     ensures place { IfOk result (λ f. IsLocationIn text.now f.location) }
 {
+    let location = location_in(alloc, text, tree, fault)?;
     let detail = explain(alloc, tree, fault)?;
-    let location = match fault.parts().1 {
-        Some(subject) => {
-            let path = place_path(alloc, subject.place.section, subject.place.number)?;
-            let other = match subject.part {
-                Part::OtherKey(place) => other_key(found(tree, &path), place),
-                _ => "",
-            };
-            locate(text, subject, other)
-        }
-        None => location_after(&[]),
-    };
     Ok(Finding {
         fault,
         location,
@@ -99,49 +109,42 @@ fn finding_in(
     }
 }
 
-/// The tree for the faults after this one. A section that is one table is an array of it from now
-/// on, and an unknown key is gone, so that the places of those behind it are as the faults have them.
-fn tree_after(alloc: Global, fault: &TableFault, tree: Value) -> Result<Value, AllocError> {
+/// Whether the places of the faults after this one are those of the tree in which it is mended: a
+/// section that is one table is an array of it from now on, and an unknown key is gone.
+fn moves_places(fault: &TableFault) -> bool {
     match fault {
-        TableFault::WrongType(
-            Subject {
-                part: Part::Whole,
-                ..
-            },
-        )
-        | TableFault::UnknownKey(_) => mended(alloc, fault, &tree),
-        _ => Ok(tree),
+        TableFault::WrongType(subject) => subject.part == Part::Whole,
+        TableFault::UnknownKey(_) => true,
+        _ => false,
     }
 }
 
-/// The document for the faults after this one.
-fn document_after(
-    alloc: Global,
-    fault: &TableFault,
-    document: Document,
-) -> Result<Document, AllocError> {
-    match document {
-        Ok(tree) => Ok(Ok(tree_after(alloc, fault, tree)?)),
-        Err(error) => Ok(Err(error)),
+/// Makes the document the one for the faults after this one.
+fn move_past(alloc: Global, fault: &TableFault, document: &mut Document) -> Result<(), AllocError> {
+    if let Ok(tree) = document
+        && moves_places(fault)
+    {
+        *tree = mended(alloc, fault, tree)?;
     }
+    Ok(())
 }
 
-/// The faults of the text of this document, each with its place and its text.
+/// The faults of the text of this document, each with its place and its text. The document becomes
+/// the one for the faults after them.
 fn findings_in(
     alloc: Global,
     text: &[u8],
     faults: &[TableFault],
-    document: Document,
+    document: &mut Document,
 ) -> Result<Vec<Finding>, AllocError>
     ensures faults { IfOk result (λ v. map (λ (f : Finding). f.fault) v.items ≡ faults.now) }
     ensures places { IfOk result (λ v. All (λ (f : Finding). IsLocationIn text.now f.location)
         v.items) }
 {
-    let mut document = document;
     let mut named = Vec::new(alloc);
     for fault in faults {
-        named.push(finding_in(alloc, text, &document, *fault)?)?;
-        document = document_after(alloc, fault, document)?;
+        named.push(finding_in(alloc, text, document, *fault)?)?;
+        move_past(alloc, fault, document)?;
     }
     Ok(named)
 }
@@ -171,11 +174,13 @@ pub fn findings_of(alloc: Global, text: &[u8]) -> Result<Vec<Finding>, AllocErro
     ensures places { IfOk result (λ v. All (λ (f : Finding). IsLocationIn text.now f.location)
         v.items) }
 {
-    let document = match toml::table_from_slice(alloc, text) {
+    let faults = named_faults(alloc, text)?;
+    let mut document = match toml::table_from_slice(alloc, text) {
         Ok(members) => Ok(Value::Table(members)),
         Err(error) if error.is_memory() => return Err(AllocError),
         Err(error) => Err(error),
     };
-    let faults = named_faults(alloc, text)?;
-    findings_in(alloc, text, &faults, document)
+    let findings = findings_in(alloc, text, &faults, &mut document);
+    drop(document);
+    findings
 }

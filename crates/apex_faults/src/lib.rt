@@ -16,6 +16,7 @@ mod scanning;
 mod shown;
 mod suggestions;
 mod wanted;
+mod wordings;
 
 pub use findings::{Finding, LONGEST_LISTED, findings_of};
 pub use listing::{MOST_FAULTS, faults};

@@ -2,7 +2,10 @@
 ghost use Rattle.std.specs.Prelude.{◌≡◌, option_map, string_bytes, IfOk};
 ghost use Rattle.toml.specs.View.{view, array_view, table_view};
 ghost use Rattle.apex_table.specs.Keys.{is_one_of};
-ghost use Rattle.apex_faults.specs.Trees.{first_items, without_member};
+ghost use Rattle.apex_words.specs.Fault.{key_word};
+ghost use Rattle.apex_words.specs.declared.key.Key.TheVariants.{Profile};
+ghost use Rattle.apex_faults.specs.Plain.{plain_value};
+ghost use Rattle.apex_faults.specs.Trees.{first_items, put_member, without_member};
 ghost use Rattle.apex_faults.specs.Mended.{cut, fault_path, mended, mended_part, most_at, other_name, plain_part, retyped_section, widened, without_other, without_unknown};
 
 use crate::paths::{PathStep, changed, found, subject_path};
@@ -164,6 +167,15 @@ fn fault_path(alloc: Global, fault: &TableFault) -> Result<Vec<PathStep>, AllocE
     }
 }
 
+/// The tree with the greatest profile.
+fn with_greatest_profile(alloc: Global, tree: &Value) -> Result<Value, AllocError>
+    ensures { IfOk result (λ v. view v
+        ≡ put_member (key_word Profile) (plain_value 0 Profile) (view tree.now)) }
+{
+    let profile = plain_value(alloc, 0, Key::Profile)?;
+    changed(alloc, tree, &[PathStep::Key(Key::Profile)], profile)
+}
+
 /// A tree with more processes than one of profile 1 may have is one of the greatest profile.
 fn widened(alloc: Global, fault: &TableFault, tree: Value) -> Result<Value, AllocError>
     ensures { IfOk result (λ v. view v ≡ widened fault.now (view tree)) }
@@ -172,8 +184,9 @@ fn widened(alloc: Global, fault: &TableFault, tree: Value) -> Result<Value, Allo
         && subject.place.section == Section::Process
         && subject.part == Part::Whole
     {
-        let profile = plain_value(alloc, 0, Key::Profile)?;
-        return changed(alloc, &tree, &[PathStep::Key(Key::Profile)], profile);
+        let wide = with_greatest_profile(alloc, &tree);
+        drop(tree);
+        return wide;
     }
     Ok(tree)
 }

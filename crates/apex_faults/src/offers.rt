@@ -1,22 +1,28 @@
 //! What was meant by an unknown word: the nearest key, service or name, or all that there are.
 use crate::outside::{LeftOut, left_out};
 use crate::plain::keys_of;
-use crate::shown::{MOST_SHOWN, shown_text};
+use crate::shown::{MOST_SHOWN, put_text};
 use crate::suggestions::nearest;
+use crate::wordings::Wording;
 use apex_calls::CATALOGUE;
 use apex_words::Section;
 use std::alloc::{AllocError, Global};
 
-/// The words with commas between them.
-fn listed(alloc: Global, words: &[&str]) -> Result<String, AllocError> {
-    let mut text = String::new(alloc);
+/// Puts the words with commas between them.
+fn put_list(text: &mut Wording, words: &[&str]) {
+    let mut front = "";
     for word in words {
-        if !text.is_empty() {
-            text.push_str(", ")?;
+        text.put(front);
+        text.put(word);
+        if !word.is_empty() {
+            front = ", ";
         }
-        text.push_str(word)?;
     }
-    Ok(text)
+}
+
+/// Puts the question whether this word was meant.
+fn put_question(text: &mut Wording, meant: &str) {
+    text.put_between("; did you mean ", meant, "?");
 }
 
 /// The nearest one of these words, if one is near; none is near to a word that is too long to be
@@ -28,75 +34,92 @@ fn near<'w>(alloc: Global, word: &str, words: &[&'w str]) -> Result<Option<&'w s
     nearest(alloc, word, words)
 }
 
-/// The text that offers the nearest one of these words, or all of them if none is near.
-pub fn offer(alloc: Global, word: &str, words: &[&str]) -> Result<String, AllocError> {
+/// Puts the offer of the nearest one of these words, or of all of them if none is near.
+pub fn put_offer(text: &mut Wording, word: &str, words: &[&str]) {
     if words.is_empty() {
-        return String::from_str(alloc, "; there is none");
+        text.put("; there is none");
+        return;
     }
-    match near(alloc, word, words)? {
-        Some(near) => format!(in alloc; "; did you mean {near}?"),
-        None => {
-            let all = listed(alloc, words)?;
-            format!(in alloc; "; there is {all}")
+    match near(text.alloc(), word, words) {
+        Ok(Some(meant)) => put_question(text, meant),
+        Ok(None) => {
+            text.put("; there is ");
+            put_list(text, words);
         }
+        Err(_) => text.refuse(),
     }
 }
 
-/// What a key that the section does not have may be meant as.
-pub fn offer_key(alloc: Global, section: Section, name: &str) -> Result<String, AllocError> {
-    let mut words = Vec::new(alloc);
-    for key in keys_of(section) {
-        words.push(key.word())?;
-    }
-    let offer = offer(alloc, name, &words)?;
-    if section == Section::Top {
-        return format!(in alloc; "the table has no such key at its top{offer}");
-    }
-    let section = section.word();
-    format!(in alloc; "the section {section} has no such key{offer}")
+/// The words of all keys of the section.
+fn key_words(alloc: Global, section: Section) -> Result<Vec<&'static str>, AllocError> {
+    keys_of(section).iter().map(|key| key.word()).collect(alloc)
 }
 
-/// The service that is nearest to the word in capitals, with its question.
-fn near_service(alloc: Global, word: &str) -> Result<String, AllocError> {
+/// Puts what a key that the section does not have may be meant as.
+pub fn put_other_key(text: &mut Wording, section: Section, name: &str) {
+    match section {
+        Section::Top => text.put("the table has no such key at its top"),
+        _ => text.put_between("the section ", section.word(), " has no such key"),
+    }
+    match key_words(text.alloc(), section) {
+        Ok(words) => put_offer(text, name, &words),
+        Err(_) => text.refuse(),
+    }
+}
+
+/// The words of all services.
+fn service_words(alloc: Global) -> Result<Vec<&'static str>, AllocError> {
+    CATALOGUE.iter().map(|row| row.word).collect(alloc)
+}
+
+/// The word that is nearest to this one, or else to this one in capitals.
+fn near_in_capitals<'w>(
+    alloc: Global,
+    word: &str,
+    words: &[&'w str],
+) -> Result<Option<&'w str>, AllocError> {
+    if let Some(meant) = near(alloc, word, words)? {
+        return Ok(Some(meant));
+    }
     let capitals = word.to_ascii_uppercase(alloc)?;
-    let mut words = Vec::new(alloc);
-    for row in &CATALOGUE {
-        words.push(row.word)?;
-    }
-    let meant = match near(alloc, word, &words)? {
-        Some(meant) => Some(meant),
-        None => near(alloc, capitals.as_str(), &words)?,
-    };
-    match meant {
-        Some(meant) => format!(in alloc; "; did you mean {meant}?"),
-        None => Ok(String::new(alloc)),
+    near(alloc, capitals.as_str(), words)
+}
+
+/// The service that is nearest to the word, if one is near.
+fn near_service(alloc: Global, word: &str) -> Result<Option<&'static str>, AllocError> {
+    let words = service_words(alloc)?;
+    near_in_capitals(alloc, word, &words)
+}
+
+/// Puts that no service has this word, and which one is near to it.
+fn put_unknown_service(text: &mut Wording, word: &str) {
+    put_text(text, word);
+    text.put(" is no service");
+    match near_service(text.alloc(), word) {
+        Ok(Some(meant)) => put_question(text, meant),
+        Ok(None) => {}
+        Err(_) => text.refuse(),
     }
 }
 
-/// Why no service has this word.
-pub fn offer_service(alloc: Global, word: &str) -> Result<String, AllocError> {
+/// Puts what this profile has in place of a service of ARINC 653.
+fn put_left_out(text: &mut Wording, row: &LeftOut) {
+    text.put_between(
+        "this profile leaves ",
+        row.word,
+        " of ARINC 653 out, and has ",
+    );
+    text.put(row.instead.unwrap_or("nothing"));
+    text.put(" in its place");
+}
+
+/// Puts why no service has this word.
+pub fn put_no_service(text: &mut Wording, word: &str) {
     match left_out(word) {
-        Some(
-            LeftOut {
-                instead: Some(other),
-                ..
-            },
-        ) => format!(in alloc;
-            "this profile leaves {word} of ARINC 653 out, and has {other} in its place"
-        ),
-        Some(_) => format!(in alloc;
-            "this profile leaves {word} of ARINC 653 out, and has nothing in its place"
-        ),
+        Some(row) => put_left_out(text, row),
         None if word.is_empty() => {
-            String::from_str(
-                alloc,
-                "a step begins with a service, without a space before it",
-            )
+            text.put("a step begins with a service, without a space before it");
         }
-        None => {
-            let given = shown_text(alloc, word)?;
-            let near = near_service(alloc, word)?;
-            format!(in alloc; "{given} is no service{near}")
-        }
+        None => put_unknown_service(text, word),
     }
 }

@@ -1,4 +1,5 @@
 //! Values, entries and parts of a table, as the text of a fault shows them.
+use crate::wordings::Wording;
 use apex_words::{Part, Place, Section};
 use std::alloc::{AllocError, Global};
 use toml::Value;
@@ -6,41 +7,43 @@ use toml::Value;
 /// The most bytes of a text that is shown; of a longer one the number of bytes is shown.
 pub const MOST_SHOWN: usize = 64;
 
-/// A text as it is given.
-pub fn shown_text(alloc: Global, text: &str) -> Result<String, AllocError> {
-    let count = text.len();
+/// Puts a text as it is given.
+pub fn put_text(text: &mut Wording, given: &str) {
+    let count = given.len();
     if count > MOST_SHOWN {
-        return format!(in alloc; "a text of {count} bytes");
+        text.put_number_between("a text of ", count, " bytes");
+        return;
     }
-    format!(in alloc; "\"{text}\"")
+    text.put_between("\"", given, "\"");
 }
 
-/// A value as it is given, or its type.
-pub fn shown(alloc: Global, value: &Value) -> Result<String, AllocError> {
+/// Puts a value as it is given, or its type.
+pub fn put_value(text: &mut Wording, value: &Value) {
     match value {
-        Value::String(text) => shown_text(alloc, text.as_str()),
-        Value::Integer(number) => format!(in alloc; "{number}"),
-        Value::Float(_) => String::from_str(alloc, "a fraction"),
-        Value::Boolean(truth) => format!(in alloc; "{truth}"),
-        Value::Datetime(_) => String::from_str(alloc, "a date or a time"),
-        Value::Array(_) => String::from_str(alloc, "an array"),
-        Value::Table(_) => String::from_str(alloc, "a table"),
+        Value::String(given) => put_text(text, given.as_str()),
+        Value::Integer(number) => text.put_integer(*number),
+        Value::Float(_) => text.put("a fraction"),
+        Value::Boolean(true) => text.put("true"),
+        Value::Boolean(false) => text.put("false"),
+        Value::Datetime(_) => text.put("a date or a time"),
+        Value::Array(_) => text.put("an array"),
+        Value::Table(_) => text.put("a table"),
     }
 }
 
-/// The words of a step's text, which have one space between them.
-pub fn words_of(alloc: Global, step: Option<&Value>) -> Result<Vec<&str>, AllocError> {
+/// The word at this place of a step's text, whose words have one space between them, or no word.
+pub fn word_at(step: Option<&Value>, place: usize) -> &str {
     match step {
-        Some(Value::String(text)) => text.as_str().split(' ').collect(alloc),
-        _ => Ok(Vec::new(alloc)),
+        Some(Value::String(words)) => words.as_str().split(' ').nth(place).unwrap_or(""),
+        _ => "",
     }
 }
 
-/// The word at this place, or no word.
-pub fn word_at<'w>(words: &[&'w str], place: usize) -> &'w str {
-    match words.get(place) {
-        Some(word) => *word,
-        None => "",
+/// Whether a step's text has two spaces side by side, or one at its beginning or its end.
+pub fn has_empty_word(step: &Value) -> bool {
+    match step {
+        Value::String(words) => words.as_str().split(' ').any(|word| word.is_empty()),
+        _ => false,
     }
 }
 
@@ -69,71 +72,76 @@ pub fn first_named(tree: &Value, section: Section, name: &str) -> usize {
     }
 }
 
+/// The entry's name, if it is a short text.
+fn short_name(entry: &Value) -> Option<&str> {
+    match entry.get("name") {
+        Some(Value::String(name)) if name.len() <= MOST_SHOWN => Some(name.as_str()),
+        _ => None,
+    }
+}
+
 /// The names of a section's entries, as far as they are short texts.
 pub fn names_in<'v>(
     alloc: Global,
     tree: &'v Value,
     section: Section,
 ) -> Result<Vec<&'v str>, AllocError> {
-    let mut names = Vec::new(alloc);
-    if let Some(Value::Array(entries)) = tree.get(section.word()) {
-        for entry in entries {
-            if let Some(Value::String(name)) = entry.get("name")
-                && name.len() <= MOST_SHOWN
-            {
-                names.push(name.as_str())?;
-            }
-        }
+    match tree.get(section.word()) {
+        Some(Value::Array(entries)) => entries
+            .iter()
+            .filter_map(|entry| short_name(entry))
+            .collect(alloc),
+        _ => Ok(Vec::new(alloc)),
     }
-    Ok(names)
 }
 
-/// The name of the place's entry with a space before it, if it has a short one.
-pub fn name_part(alloc: Global, tree: &Value, place: Place) -> Result<String, AllocError> {
+/// The entry at this place.
+pub fn entry_at(tree: &Value, place: Place) -> Option<&Value> {
     let number = place.number as usize;
-    if number > 0
-        && let Some(entries) = tree.get(place.section.word())
-        && let Some(entry) = entries.get(number - 1)
-        && let Some(Value::String(name)) = entry.get("name")
-        && name.len() <= MOST_SHOWN
-    {
-        let name = name.as_str();
-        return format!(in alloc; " \"{name}\"");
+    if number == 0 {
+        return None;
     }
-    Ok(String::new(alloc))
+    match tree.get(place.section.word()) {
+        Some(entries) => entries.get(number - 1),
+        None => None,
+    }
 }
 
-/// The part of an entry with a comma before it. `value` is the table that has the unknown key, if
-/// the part is one.
-pub fn part_text(
-    alloc: Global,
-    section: Section,
-    part: Part,
-    value: Option<&Value>,
-) -> Result<String, AllocError> {
+/// Puts the name of the place's entry with a space before it, if it has a short one.
+pub fn put_name(text: &mut Wording, tree: &Value, place: Place) {
+    if let Some(entry) = entry_at(tree, place)
+        && let Some(name) = short_name(entry)
+    {
+        text.put_between(" \"", name, "\"");
+    }
+}
+
+/// Puts the number of a step with a comma before it. A place of the init list has the number itself.
+fn put_step_number(text: &mut Wording, section: Section, step: usize) {
+    if section != Section::Init {
+        text.put(", step ");
+        text.put_number(step.saturating_add(1));
+    }
+}
+
+/// Puts the part of an entry with a comma before it. `value` is the table that has the unknown key,
+/// if the part is one.
+pub fn put_part(text: &mut Wording, section: Section, part: Part, value: Option<&Value>) {
     match part {
-        Part::Whole => Ok(String::new(alloc)),
+        Part::Whole => {}
         Part::Key(key) => {
-            let key = key.word();
-            format!(in alloc; ", key {key}")
+            text.put(", key ");
+            text.put(key.word());
         }
         Part::OtherKey(place) => {
-            let key = shown_text(alloc, other_key(value, place))?;
-            format!(in alloc; ", key {key}")
+            text.put(", key ");
+            put_text(text, other_key(value, place));
         }
-        Part::Step(_) if section == Section::Init => Ok(String::new(alloc)),
-        Part::Step(step) => {
-            let number = step.saturating_add(1);
-            format!(in alloc; ", step {number}")
-        }
-        Part::Word(_, word) if section == Section::Init => {
-            let word = word.saturating_add(1);
-            format!(in alloc; ", word {word}")
-        }
+        Part::Step(step) => put_step_number(text, section, step),
         Part::Word(step, word) => {
-            let number = step.saturating_add(1);
-            let word = word.saturating_add(1);
-            format!(in alloc; ", step {number}, word {word}")
+            put_step_number(text, section, step);
+            text.put(", word ");
+            text.put_number(word.saturating_add(1));
         }
     }
 }

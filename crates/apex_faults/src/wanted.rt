@@ -1,21 +1,20 @@
 //! What is wanted at a key, or of a word of a step.
 ghost use Rattle.std.specs.Prelude.{◌≤◌};
 
+use crate::shown::entry_at;
+use crate::wordings::Wording;
 use apex_calls::{Kind, Shape};
 use apex_types::{
     MOST_CORES, MOST_ENTRIES, MOST_MESSAGE, MOST_MESSAGES, MOST_NAME, MOST_PRIORITY, MOST_PROFILE,
     MOST_SPAN, MOST_STEPS, MOST_VALUE,
 };
-use apex_words::{Key, Section};
-use std::alloc::{AllocError, Global};
+use apex_words::{Key, Place, Section};
 use toml::Value;
 
-/// A whole number in this range.
-fn number_between(alloc: Global, low: u32, high: u32) -> Result<String, AllocError> {
-    if low == high {
-        return format!(in alloc; "{low}");
-    }
-    format!(in alloc; "a whole number from {low} to {high}")
+/// Puts that a whole number in this range is wanted.
+fn put_range(text: &mut Wording, low: u32, high: u32) {
+    text.put_number_between("a whole number from ", low as usize, " to ");
+    text.put_number(high as usize);
 }
 
 /// The number that the table or the entry has at the key, or else `most`, if it is 1 to `most`.
@@ -33,49 +32,56 @@ fn bound_at(table: Option<&Value>, key: Key, most: u32) -> u32
     }
 }
 
-/// A name.
-pub fn wanted_name(alloc: Global) -> Result<String, AllocError> {
-    format!(in alloc; "a name of 1 to {MOST_NAME} bytes from 0x21 to 0x7e")
+/// Puts that a name is wanted.
+pub fn put_wanted_name(text: &mut Wording) {
+    text.put_number_between("a name of 1 to ", MOST_NAME, " bytes from 0x21 to 0x7e");
 }
 
-fn wanted_text(alloc: Global, section: Section, key: Key) -> Result<String, AllocError> {
+/// The first and the last number that may be given at the key in the table of this tree, if numbers
+/// alone may be.
+fn range_at(tree: &Value, place: Place, key: Key) -> Option<(u32, u32)> {
     match key {
-        Key::Name => wanted_name(alloc),
-        Key::Deadline => String::from_str(alloc, "\"SOFT\" or \"HARD\""),
-        Key::Discipline => String::from_str(alloc, "\"FIFO\" or \"PRIORITY\""),
-        Key::Loop | Key::Start => String::from_str(alloc, "true or false"),
-        Key::Script => format!(in alloc; "an array of at most {MOST_STEPS} texts"),
-        Key::Period | Key::Capacity if section == Section::Process => {
-            format!(in alloc; "a whole number from 1 to {MOST_SPAN}, or \"infinite\",")
+        Key::Profile => Some((1, MOST_PROFILE)),
+        Key::Cores => Some((1, MOST_CORES)),
+        Key::History => Some((1, MOST_ENTRIES)),
+        Key::Priority | Key::Ceiling => Some((1, MOST_PRIORITY)),
+        Key::Core => {
+            let cores = bound_at(Some(tree), Key::Cores, MOST_CORES);
+            Some((0, cores.saturating_sub(1)))
         }
-        _ => String::from_str(alloc, "an array of tables"),
+        Key::Maximum => Some((1, MOST_VALUE)),
+        Key::Initial => {
+            let maximum = bound_at(entry_at(tree, place), Key::Maximum, MOST_VALUE);
+            Some((0, maximum))
+        }
+        Key::Length => Some((1, MOST_MESSAGE as u32)),
+        Key::Capacity if place.section == Section::Buffer => Some((1, MOST_MESSAGES as u32)),
+        _ => None,
     }
 }
 
-/// The value that is wanted at the key of the section's entry, in the table of this tree.
-pub fn wanted_at(
-    alloc: Global,
-    tree: &Value,
-    section: Section,
-    key: Key,
-    entry: Option<&Value>,
-) -> Result<String, AllocError> {
+/// Puts the value that is wanted at a key that may have another one than a number.
+fn put_wanted_value(text: &mut Wording, section: Section, key: Key) {
     match key {
-        Key::Profile => number_between(alloc, 1, MOST_PROFILE),
-        Key::Cores => number_between(alloc, 1, MOST_CORES),
-        Key::History => number_between(alloc, 1, MOST_ENTRIES),
-        Key::Priority | Key::Ceiling => number_between(alloc, 1, MOST_PRIORITY),
-        Key::Core => {
-            let cores = bound_at(Some(tree), Key::Cores, MOST_CORES);
-            number_between(alloc, 0, cores.saturating_sub(1))
+        Key::Name => put_wanted_name(text),
+        Key::Deadline => text.put("\"SOFT\" or \"HARD\""),
+        Key::Discipline => text.put("\"FIFO\" or \"PRIORITY\""),
+        Key::Loop | Key::Start => text.put("true or false"),
+        Key::Script => text.put_number_between("an array of at most ", MOST_STEPS, " texts"),
+        Key::Period | Key::Capacity if section == Section::Process => {
+            put_range(text, 1, MOST_SPAN);
+            text.put(", or \"infinite\",");
         }
-        Key::Maximum => number_between(alloc, 1, MOST_VALUE),
-        Key::Initial => number_between(alloc, 0, bound_at(entry, Key::Maximum, MOST_VALUE)),
-        Key::Length => number_between(alloc, 1, MOST_MESSAGE as u32),
-        Key::Capacity if section == Section::Buffer => {
-            number_between(alloc, 1, MOST_MESSAGES as u32)
-        }
-        key => wanted_text(alloc, section, key),
+        _ => text.put("an array of tables"),
+    }
+}
+
+/// Puts the value that is wanted at the key of the place's entry, in the table of this tree.
+pub fn put_wanted_at(text: &mut Wording, tree: &Value, place: Place, key: Key) {
+    match range_at(tree, place, key) {
+        Some((low, high)) if low == high => text.put_number(low as usize),
+        Some((low, high)) => put_range(text, low, high),
+        None => put_wanted_value(text, place.section, key),
     }
 }
 
@@ -103,24 +109,28 @@ pub fn section_of(kind: Kind) -> Section {
     }
 }
 
-/// The word that is wanted for the shape.
-pub fn wanted_word(alloc: Global, shape: Shape) -> Result<String, AllocError> {
+/// Puts the word that is wanted for the shape.
+pub fn put_wanted_word(text: &mut Wording, shape: Shape) {
     match shape {
-        Shape::Entry(kind) => {
-            let kind = kind_word(kind);
-            format!(in alloc; "the name of a {kind} of the table")
-        }
-        Shape::Named(_) => wanted_name(alloc),
+        Shape::Entry(kind) => text.put_between("the name of a ", kind_word(kind), " of the table"),
+        Shape::Named(_) => put_wanted_name(text),
         Shape::Number(low, high) => {
-            format!(in alloc; "a whole number from {low} to {high} without a leading zero")
+            put_range(text, low, high);
+            text.put(" without a leading zero");
         }
-        Shape::Timeout => format!(in alloc;
-            "infinite, or a whole number from 0 to {MOST_SPAN} without a leading zero,"
-        ),
-        Shape::Message => format!(in alloc;
-            "-, or at most {MOST_MESSAGE} pairs of the digits 0 to 9 and a to f,"
-        ),
-        Shape::Mode => String::from_str(alloc, "NORMAL or IDLE"),
+        Shape::Timeout => {
+            text.put("infinite, or ");
+            put_range(text, 0, MOST_SPAN);
+            text.put(" without a leading zero,");
+        }
+        Shape::Message => {
+            text.put_number_between(
+                "-, or at most ",
+                MOST_MESSAGE,
+                " pairs of the digits 0 to 9 and a to f,",
+            );
+        }
+        Shape::Mode => text.put("NORMAL or IDLE"),
     }
 }
 
