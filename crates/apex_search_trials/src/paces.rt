@@ -36,7 +36,7 @@ const SCHEDULE: &str = "0*5 t3 0*2 t1 0 t4 0 t3 0*2 t1 0 t4 0 t2";
 /// The schedule that has the events of the kernel's history.
 fn schedule_of<R: Abort>(rt: &R, alloc: Global, kernel: &Kernel<QueueStore>) -> FailAt {
     let events = events_in(alloc, kernel).expect(rt, "memory");
-    let mut paper = paper(rt, alloc, 64, 0);
+    let mut paper = paper(rt, alloc, SCHEDULE.len(), 0);
     print_schedule(events.as_slice(), &mut Counted::new(&mut paper)).expect(rt, "room for it");
     drop(events);
     paper
