@@ -7,7 +7,6 @@ use Rattle.apex_explore.specs.Paths.{Leads, NoHitWithin, ReachesWithin}
 use Rattle.apex_explore.specs.Searches.{AreSearched, IsSearched, IsSearchedBefore, Weakens}
 use Rattle.apex_states.specs.States.{IsKept, Reached}
 use Rattle.apex_explore.specs.Systems.{Step, goes, hits}
-use Rattle.apex_explore.specs.declared.fronts.Front.{Front}
 use Rattle.apex_explore.specs.declared.searches.Search.{Search}
 use Rattle.apex_states.specs.declared.states.Origin.{Origin}
 use Rattle.apex_explore.proofs.Growth.{AllAre-one}

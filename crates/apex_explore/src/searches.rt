@@ -3,7 +3,8 @@ ghost use Rattle.std.specs.Prelude.{◌≡◌, ◌≤◌, ◌+◌, length, IfOk,
 ghost use Rattle.apex_explore.specs.Answers.{Says};
 ghost use Rattle.apex_explore.specs.Levels.{Stops, first_front, turned};
 ghost use Rattle.apex_explore.specs.Parts.{Fit, IsPast};
-ghost use Rattle.apex_explore.specs.Searches.{AreLeft, AreSearched, IsOver, IsSearched, IsSearchedBefore, IsUnderWay, room_of};
+ghost use Rattle.apex_explore.specs.Searches.{AreLeft, AreSearched, IsOver, IsSearched};
+ghost use Rattle.apex_explore.specs.Searches.{IsSearchedBefore, IsUnderWay, room_of};
 ghost use Rattle.apex_explore.specs.Systems.{step_within};
 ghost use Rattle.apex_states.specs.Lists.{AllAre, IsFront};
 

@@ -1,6 +1,9 @@
 //! The warnings that are found, kind by kind.
 ghost use Rattle.std.specs.Prelude.{◌≡◌, ◌<◌, ◌++◌, [], length, IfOk};
-ghost use Rattle.apex_warnings.specs.Warnings.{about_objects, about_processes, about_steps, cores_warned, init_warned, objects_warned, processes_warned, script_warned, steps_warned, warned, warnings};
+ghost use Rattle.apex_warnings.specs.Warnings.{about_objects, about_processes, about_steps};
+ghost use Rattle.apex_warnings.specs.Warnings.{cores_warned, init_warned, objects_warned};
+ghost use Rattle.apex_warnings.specs.Warnings.{processes_warned, script_warned, steps_warned};
+ghost use Rattle.apex_warnings.specs.Warnings.{warned, warnings};
 ghost use Rattle.apex_warnings.specs.Cores.{core_is_unused, some_process_stays};
 
 use crate::acts::Act;

@@ -7,6 +7,7 @@ use Rattle.apex_explore.specs.declared.searches.Search.{Search}
 use Rattle.apex_explore.proofs.Levels.{turned_level}
 use Rattle.apex_states.specs.States.{Reached}
 use Rattle.apex_jobs.specs.Rounds.{AreExpansions}
+use Rattle.std.proofs.lemmas.Grind.{common_steps}
 use Rattle.apex_jobs.proofs.Rounds.{AreExpansions-later}
 use Rattle.apex_jobs.proofs.jobs.Jobs.go_on_at_once.Goals as goal
 
@@ -75,3 +76,15 @@ loop-search-smaller g c =
     let fits : length old.states.states ≤ old.states.room = c.show.ensures in
     let smaller : turn.states.room + 1 - turn.front.at < old.states.room + 1 - old.front.at = omega (arith, room, at, fits, so_far.before, so_far.within, so_far.level, so_far.searched.in_states) in
     smaller
+
+pub loop-search-init : goal.loop-search-init
+loop-search-init g c = grind (arith, common_steps)
+
+pub take-requires-clause-fit : goal.take-requires-clause-fit
+take-requires-clause-fit g c = grind (arith, common_steps)
+
+pub lay_out_all-requires-in-loop-search-clause-states : goal.lay_out_all-requires-in-loop-search-clause-states
+lay_out_all-requires-in-loop-search-clause-states g c κs within = grind (arith, common_steps)
+
+pub take_and_expand-requires-clause-fit : goal.take_and_expand-requires-clause-fit
+take_and_expand-requires-clause-fit g c κs within = grind (arith, common_steps)
