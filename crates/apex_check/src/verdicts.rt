@@ -1,7 +1,5 @@
 //! The verdict on a text, and why a text has none.
-ghost use Rattle.std.specs.Prelude.{◌≡◌, ◌+◌, ◌≤◌, ◌++◌, length, decimal, Some};
-ghost use Rattle.arrayvec.specs.ArrayVec.{array_vec_len};
-ghost use Rattle.apex_history.specs.declared.puts.TheConstants.{LINES_ROOM};
+ghost use Rattle.std.specs.Prelude.{◌≡◌, Some};
 ghost use Rattle.apex_check.specs.Faults.{fault_text};
 ghost use Rattle.apex_check.specs.Steps.{IsTellable};
 ghost use Rattle.apex_check.specs.TableFaults.{fault_of_table};
@@ -10,9 +8,9 @@ ghost use Rattle.apex_check.specs.declared.verdicts.CheckFault.TheVariants.{Memo
 
 use apex_configs::Table;
 use apex_history::{Lines, NextSteps, put_line};
+use apex_texts::{put, put_number};
 use apex_types::Entry;
 use apex_words::TableFault;
-use itoa::Buffer;
 use std::alloc::AllocError;
 use std::error::Error;
 use std::fmt;
@@ -92,25 +90,6 @@ impl From<TableFault> for CheckFault {
     }
 }
 
-fn put(text: &mut Lines, bytes: &[u8])
-    requires { array_vec_len text.old + length bytes.now ≤ LINES_ROOM }
-    ensures text { text.new.items ≡ text.old.items ++ bytes.now }
-    ensures len { array_vec_len text.new ≡ array_vec_len text.old + length bytes.now }
-{
-    let taken = text.try_extend_from_slice(bytes);
-    let fits = taken.is_ok();
-    prove!(fits);
-}
-
-fn put_number(text: &mut Lines, number: u32)
-    requires { array_vec_len text.old + 10 ≤ LINES_ROOM }
-    ensures text { text.new.items ≡ text.old.items ++ decimal number }
-    ensures short { array_vec_len text.new ≤ array_vec_len text.old + 10 }
-{
-    let mut buffer = Buffer::new();
-    put(text, buffer.format(number).as_bytes());
-}
-
 /// The text of the verdict on a history of the table.
 #[tactic(auto, using(std::proofs::Common::append_assoc))]
 pub fn verdict_text(table: &Table, verdict: &Verdict) -> Lines
@@ -120,17 +99,17 @@ pub fn verdict_text(table: &Table, verdict: &Verdict) -> Lines
     let mut text = Lines::new();
     match verdict {
         Verdict::Legal(count) => {
-            put(&mut text, b"legal ");
+            put(&mut text, "legal ");
             put_number(&mut text, *count);
-            put(&mut text, b"\n");
+            put(&mut text, "\n");
         }
         Verdict::DepartsAt(line, expected) => {
-            put(&mut text, b"departs at ");
+            put(&mut text, "departs at ");
             put_number(&mut text, *line);
-            put(&mut text, b"\nexpected: ");
+            put(&mut text, "\nexpected: ");
             match expected {
                 Some(entry) => put_line(&mut text, table, &mut NextSteps::new(), &entry.lent()),
-                None => put(&mut text, b"nothing\n"),
+                None => put(&mut text, "nothing\n"),
             }
         }
     }

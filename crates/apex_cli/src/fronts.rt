@@ -1,38 +1,20 @@
 //! The line of the front after a run.
-ghost use Rattle.std.specs.Prelude.{◌≡◌, ◌+◌, ◌*◌, ◌<◌, ◌≤◌, ◌++◌, length, decimal, flat_map};
+ghost use Rattle.std.specs.Prelude.{◌≡◌, ◌+◌, ◌*◌, ◌<◌, ◌≤◌, ◌++◌, length, flat_map};
 ghost use Rattle.arrayvec.specs.ArrayString.{array_string_len};
 ghost use Rattle.apex_types.specs.declared.limits.TheConstants.{MOST_CORES};
 ghost use Rattle.apex_cli.specs.FrontLines.{front_line, front_text, running_text};
 ghost use Rattle.apex_cli.specs.declared.fronts.TheConstants.{FRONT_ROOM};
 
 use apex_partition::Front;
+use apex_texts::{push_long_number, push_number};
 use apex_types::ProcessId;
 use arrayvec::ArrayString;
-use itoa::Buffer;
 
 /// Room for the bytes of a front's line.
 const FRONT_ROOM: usize = 128;
 
 /// The line of a front.
 pub type FrontLine = ArrayString<FRONT_ROOM>;
-
-fn put_number(line: &mut FrontLine, number: u32)
-    requires { array_string_len line.old + 10 ≤ FRONT_ROOM }
-    ensures text { line.new.bytes ≡ line.old.bytes ++ decimal number }
-    ensures short { array_string_len line.new ≤ array_string_len line.old + 10 }
-{
-    let mut buffer = Buffer::new();
-    line.push_str(buffer.format(number));
-}
-
-fn put_long_number(line: &mut FrontLine, number: u64)
-    requires { array_string_len line.old + 20 ≤ FRONT_ROOM }
-    ensures text { line.new.bytes ≡ line.old.bytes ++ decimal number }
-    ensures short { array_string_len line.new ≤ array_string_len line.old + 20 }
-{
-    let mut buffer = Buffer::new();
-    line.push_str(buffer.format(number));
-}
 
 /// The process that a core runs.
 #[tactic(auto, using(std::proofs::Common::append_assoc))]
@@ -44,7 +26,7 @@ fn put_running(line: &mut FrontLine, running: &Option<ProcessId>)
     match running {
         Some(process) => {
             line.push_str(" ");
-            put_number(line, process.number());
+            push_number(line, process.number());
         }
         None => line.push_str(" -"),
     }
@@ -69,9 +51,9 @@ fn front_line(front: &Front) -> FrontLine
 {
     let mut line = FrontLine::new();
     line.push_str("front ");
-    put_number(&mut line, front.entries);
+    push_number(&mut line, front.entries);
     line.push_str(" ");
-    put_long_number(&mut line, front.now);
+    push_long_number(&mut line, front.now);
     put_chosen(&mut line, front.chosen.as_slice());
     line.push('\n');
     line

@@ -1,5 +1,5 @@
 //! The faults with which a program ends, their lines and their statuses.
-ghost use Rattle.std.specs.Prelude.{◌≡◌, ◌+◌, ◌≤◌, ◌++◌, Some, decimal};
+ghost use Rattle.std.specs.Prelude.{◌≡◌, ◌+◌, ◌≤◌, ◌++◌, Some};
 ghost use Rattle.arrayvec.specs.ArrayString.{array_string_len};
 ghost use Rattle.apex_words.specs.Fault as tables;
 ghost use Rattle.apex_console.specs.Faults.{fault_of_checking, fault_of_read, fault_of_table, fault_text, fault_line, status_of_fault};
@@ -8,9 +8,9 @@ ghost use Rattle.apex_console.specs.declared.faults.TheConstants.{FAULT_ROOM};
 
 use apex_check::CheckFault;
 use apex_history::ReadFault;
+use apex_texts::push_number;
 use apex_words::TableFault;
 use arrayvec::ArrayString;
-use itoa::Buffer;
 use std::alloc::AllocError;
 use std::error::Error;
 use std::fmt;
@@ -80,15 +80,15 @@ impl CliFault {
             CliFault::NoSeparator => text.push_str("apex: no separator"),
             CliFault::BadLine(line) => {
                 text.push_str("apex: history refused: BadLine at line ");
-                put_number(&mut text, line);
+                push_number(&mut text, line);
             }
             CliFault::TooLong(line) => {
                 text.push_str("apex: history refused: TooLong at line ");
-                put_number(&mut text, line);
+                push_number(&mut text, line);
             }
             CliFault::HistoryFull(entries) => {
                 text.push_str("apex: history full after ");
-                put_number(&mut text, entries);
+                push_number(&mut text, entries);
                 text.push_str(" entries");
             }
             CliFault::Memory => text.push_str("apex: out of memory"),
@@ -124,17 +124,8 @@ fn put_table_fault(text: &mut Line, fault: TableFault)
         text.push_str(" in ");
         text.push_str(subject.place.section.word());
         text.push_str(" ");
-        put_number(text, subject.place.number);
+        push_number(text, subject.place.number);
     }
-}
-
-fn put_number(text: &mut Line, number: u32)
-    requires { array_string_len text.old + 10 ≤ FAULT_ROOM }
-    ensures text { text.new.bytes ≡ text.old.bytes ++ decimal number }
-    ensures short { array_string_len text.new ≤ array_string_len text.old + 10 }
-{
-    let mut buffer = Buffer::new();
-    text.push_str(buffer.format(number));
 }
 
 impl fmt::Display for CliFault {

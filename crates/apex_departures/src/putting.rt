@@ -1,9 +1,9 @@
 //! The bytes of a line, put so that each can be seen.
-ghost use Rattle.std.specs.Prelude.{◌≡◌, ◌==◌, ◌<◌, ◌≤◌, ◌++◌, decimal, length, false, OnOk};
-ghost use Rattle.std.specs.Fmt.{digit_glyph};
+ghost use Rattle.std.specs.Prelude.{◌≡◌, ◌==◌, ◌≤◌, ◌++◌, decimal, length, OnOk};
 ghost use Rattle.std.specs.List.{common_prefix_len};
 ghost use Rattle.apex_departures.specs.Shown.{are_spaces, column, escaped, is_plain, shown, shown_byte};
 
+use apex_texts::hex_digit;
 use itoa::Buffer;
 use std::alloc::AllocError;
 
@@ -44,23 +44,11 @@ pub(crate) fn put_number_between(
     put_between(text, before, buffer.format(number).as_bytes(), behind)
 }
 
-/// A hexadecimal digit.
-fn digit(value: u8) -> u8
-    requires { value < 16 }
-    ensures { result ≡ digit_glyph false value }
-{
-    if value < 10 {
-        b'0' + value
-    } else {
-        b'a' - 10 + value
-    }
-}
-
 /// Puts `\x` and the two digits of a byte.
 fn put_escaped(text: &mut Vec<u8>, byte: u8) -> Result<(), AllocError>
     ensures { OnOk result (text.new.items ≡ text.old.items ++ escaped byte) }
 {
-    text.extend_from_slice(&[b'\\', b'x', digit(byte / 16), digit(byte % 16)])
+    text.extend_from_slice(&[b'\\', b'x', hex_digit(byte / 16), hex_digit(byte % 16)])
 }
 
 /// The first byte, in their order, that is seen as it is.

@@ -6,7 +6,7 @@ ghost use Rattle.arrayvec.specs.ArrayVec.{array_vec_len};
 ghost use Rattle.apex_machine.specs.table.Table.{IsKnown};
 ghost use Rattle.apex_machine.specs.text.Texts.{id_text};
 ghost use Rattle.apex_calls.specs.CallText.{timeout_text};
-ghost use Rattle.apex_calls.specs.Lines.{code_text, deadline_text, no_call_text, asked_text, who_text, caller_text, reply_text, noticed_text, line_of, IsPrintable};
+ghost use Rattle.apex_calls.specs.Lines.{code_text, no_call_text, asked_text, who_text, caller_text, reply_text, noticed_text, line_of, IsPrintable};
 
 mod call;
 mod message;
@@ -15,16 +15,17 @@ mod status_rows;
 
 use crate::entry_parts::EntryParts;
 use crate::steps::NextSteps;
+use crate::texts::{code_word, deadline_word};
 use apex_calls::{MOST_SHAPES, MOST_WORD};
 use apex_configs::Table;
+use apex_texts::{put, put_bytes, put_long_number as put_long_digits, put_number as put_digits};
 use apex_types::{
-    Call, Caller, CoreId, DeadlineType, Id, LentEntry, MOST_LINE, MOST_LITERAL, MOST_NOTICES, Name,
-    Notice, ProcessId, Reply, ReturnCode, Timeout, Who,
+    Caller, CoreId, Id, LentEntry, MOST_LINE, MOST_LITERAL, MOST_NOTICES, Name, Notice, ProcessId,
+    Reply, ReturnCode, Timeout, Who,
 };
 use arrayvec::ArrayVec;
 use call::put_called;
-use itoa::Buffer;
-use message::put_message;
+pub use message::put_message;
 pub(crate) use status_rows::put_row;
 
 /// The most bytes of the lines that are put together before they go to a page.
@@ -53,26 +54,6 @@ pub static DIGIT_PAIRS: [u8; 200] =
 /// Lines of a history, one behind the other: a buffer of at most [`LINES_ROOM`] bytes, of which a
 /// line takes at most [`MOST_LINE`].
 pub type Lines = ArrayVec<u8, LINES_ROOM>;
-
-#[inline(always)]
-fn put(line: &mut Lines, text: &str)
-    requires { array_vec_len line.old + length text.now ≤ LINES_ROOM }
-    ensures text { line.new.items ≡ line.old.items ++ text.now }
-    ensures len { array_vec_len line.new ≡ array_vec_len line.old + length text.now }
-{
-    put_bytes(line, text.as_bytes());
-}
-
-#[inline(always)]
-fn put_bytes(line: &mut Lines, text: &[u8])
-    requires { array_vec_len line.old + length text.now ≤ LINES_ROOM }
-    ensures text { line.new.items ≡ line.old.items ++ text.now }
-    ensures len { array_vec_len line.new ≡ array_vec_len line.old + length text.now }
-{
-    let taken = line.try_extend_from_slice(text);
-    let fits = taken.is_ok();
-    prove!(fits);
-}
 
 /// A text that is known beforehand. It comes as a value, so that it is a part of the code.
 #[inline(always)]
@@ -185,17 +166,6 @@ fn put_six_digits(line: &mut Lines, number: u32)
     put_pair(line, (number % 100) as u8);
 }
 
-/// A number of any length, in a function of its own so that the shorter cases are inlined.
-#[inline(never)]
-fn put_digits(line: &mut Lines, number: u32)
-    requires { array_vec_len line.old + 10 ≤ LINES_ROOM }
-    ensures text { line.new.items ≡ line.old.items ++ decimal number }
-    ensures short { array_vec_len line.new ≤ array_vec_len line.old + 10 }
-{
-    let mut buffer = Buffer::new();
-    put(line, buffer.format(number));
-}
-
 #[inline(always)]
 fn put_number(line: &mut Lines, number: u32)
     requires { array_vec_len line.old + 10 ≤ LINES_ROOM }
@@ -213,17 +183,6 @@ fn put_number(line: &mut Lines, number: u32)
     } else {
         put_digits(line, number);
     }
-}
-
-/// A number of any length, as `put_digits` puts a shorter one.
-#[inline(never)]
-fn put_long_digits(line: &mut Lines, number: u64)
-    requires { array_vec_len line.old + 20 ≤ LINES_ROOM }
-    ensures text { line.new.items ≡ line.old.items ++ decimal number }
-    ensures short { array_vec_len line.new ≤ array_vec_len line.old + 20 }
-{
-    let mut buffer = Buffer::new();
-    put(line, buffer.format(number));
 }
 
 #[inline(always)]
@@ -403,20 +362,14 @@ fn put_caller(line: &mut Lines, caller: &Caller)
 }
 
 /// A return code as a reply, with an arrow before it.
+#[tactic(auto, using(std::proofs::Common::append_assoc))]
 fn put_code_reply(line: &mut Lines, code: &ReturnCode)
     requires { array_vec_len line.old + 18 ≤ LINES_ROOM }
     ensures text { line.new.items ≡ line.old.items ++ codes " -> " ++ code_text code.now }
     ensures short { array_vec_len line.new ≤ array_vec_len line.old + 18 }
 {
-    match code {
-        ReturnCode::NoError => put(line, " -> NO_ERROR"),
-        ReturnCode::NoAction => put(line, " -> NO_ACTION"),
-        ReturnCode::NotAvailable => put(line, " -> NOT_AVAILABLE"),
-        ReturnCode::InvalidParam => put(line, " -> INVALID_PARAM"),
-        ReturnCode::InvalidConfig => put(line, " -> INVALID_CONFIG"),
-        ReturnCode::InvalidMode => put(line, " -> INVALID_MODE"),
-        ReturnCode::TimedOut => put(line, " -> TIMED_OUT"),
-    }
+    put(line, " -> ");
+    put(line, code_word(*code));
 }
 
 /// Any reply, with an arrow before it.
@@ -477,16 +430,6 @@ fn put_reply(line: &mut Lines, table: &Table, reply: &Reply)
     }
 }
 
-fn deadline_name(deadline: &DeadlineType) -> &'static str
-    ensures value { result.now ≡ deadline_text deadline.now }
-    ensures short { length result.now ≤ 4 }
-{
-    match deadline {
-        DeadlineType::Soft => "soft",
-        DeadlineType::Hard => "hard",
-    }
-}
-
 /// The word of a process that was woken, and its id.
 #[inline(always)]
 #[tactic(auto, using(std::proofs::Common::append_assoc, std::proofs::lemmas::Fmt::decimal_digit, crate::proofs::Digits::two_digits))]
@@ -537,7 +480,7 @@ fn put_noticed(line: &mut Lines, notice: &Notice)
             put_text(line, *b" | missed ");
             put_id(line, *process);
             put_one(line, b' ');
-            put(line, deadline_name(deadline));
+            put(line, deadline_word(*deadline));
         }
     }
 }

@@ -1,36 +1,15 @@
 //! Bytes in a string of JSON, between its quotes.
-ghost use Rattle.std.specs.Prelude.{◌≡◌, ◌+◌, ◌*◌, ◌<◌, ◌≤◌, [], ◌∷◌, ◌++◌, ℕ, IsTrue, OnErr, OnOk, length, take};
-ghost use Rattle.std.specs.Char.{digit_char};
+ghost use Rattle.std.specs.Prelude.{◌≡◌, ◌+◌, ◌*◌, ◌≤◌, [], ◌∷◌, ◌++◌, ℕ, IsTrue, OnErr, OnOk, length, take};
 ghost use Rattle.arrayvec.specs.ArrayVec.{array_vec_len};
 ghost use Rattle.apex_json.specs.Strings.{json_byte, json_text};
 ghost use Rattle.apex_json.specs.declared.strings.TheConstants.{MOST_ESCAPE};
 
+use apex_texts::{hex_digit, put_bytes};
 use arrayvec::ArrayVec;
 use std::alloc::AllocError;
 
 /// The most bytes that stand for one.
 pub const MOST_ESCAPE: usize = 6;
-
-fn hex_digit(digit: u8) -> u8
-    requires { digit < 16 }
-    ensures { result ≡ digit_char digit }
-{
-    if digit < 10 {
-        b'0' + digit
-    } else {
-        b'a' + (digit - 10)
-    }
-}
-
-fn add_bytes<const N: usize>(line: &mut ArrayVec<u8, N>, more: &[u8])
-    requires { array_vec_len line.old + length more.now ≤ N }
-    ensures text { line.new.items ≡ line.old.items ++ more.now }
-    ensures len { array_vec_len line.new ≡ array_vec_len line.old + length more.now }
-{
-    let taken = line.try_extend_from_slice(more);
-    let fits = taken.is_ok();
-    prove!(fits);
-}
 
 #[inline(always)]
 fn add_json_byte<const N: usize>(line: &mut ArrayVec<u8, N>, byte: u8)
@@ -39,10 +18,10 @@ fn add_json_byte<const N: usize>(line: &mut ArrayVec<u8, N>, byte: u8)
     ensures short { array_vec_len line.new ≤ array_vec_len line.old + MOST_ESCAPE }
 {
     if byte == b'"' || byte == b'\\' {
-        add_bytes(line, &[b'\\', byte]);
+        put_bytes(line, &[b'\\', byte]);
     } else if byte < b' ' {
         let (high, low) = (hex_digit(byte / 16), hex_digit(byte % 16));
-        add_bytes(line, &[b'\\', b'u', b'0', b'0', high, low]);
+        put_bytes(line, &[b'\\', b'u', b'0', b'0', high, low]);
     } else {
         line.push(byte);
     }

@@ -1,21 +1,19 @@
 //! The faults with which the program ends, their lines and their statuses.
-ghost use Rattle.std.specs.Prelude.{◌≡◌, ◌+◌, ◌≤◌, ◌++◌, length};
-ghost use Rattle.arrayvec.specs.ArrayVec.{array_vec_len};
+ghost use Rattle.std.specs.Prelude.{◌≡◌};
 ghost use Rattle.apex_console.specs.Faults.{fault_of_read};
 ghost use Rattle.apex_console.specs.declared.CliFault.TheVariants.{Memory};
 ghost use Rattle.apex_lab_cli.specs.Faults.{entry_line, fault_of_search, fault_of_showing, fault_of_task, process_line, states_line, status_of_fault};
 ghost use Rattle.apex_lab_cli.specs.declared.faults.LabFault.TheVariants.{Common};
-ghost use Rattle.apex_lab_cli.specs.declared.faults.TheConstants.{PROCESS_ROOM};
 
 use apex_console::CliFault;
 use apex_history::ReadFault;
 use apex_inquiries::SearchFault;
 use apex_showings::{BadSchedule, EmptyWindow};
 use apex_tasks::TaskFault;
+use apex_texts::{push_number, put, put_bytes};
 use apex_types::Name;
 use apex_views::ShowFault;
 use arrayvec::{ArrayString, ArrayVec};
-use itoa::Buffer;
 use std::alloc::AllocError;
 
 /// Room for the bytes of a line that reports a fault with a number.
@@ -120,8 +118,7 @@ pub fn entry_line(number: u32) -> NumberLine
 {
     let mut line = NumberLine::new();
     line.push_str("apex_lab: no entry ");
-    let mut buffer = Buffer::new();
-    line.push_str(buffer.format(number));
+    push_number(&mut line, number);
     line.push_str("\n");
     line
 }
@@ -133,20 +130,9 @@ pub fn states_line(room: u32) -> NumberLine
 {
     let mut line = NumberLine::new();
     line.push_str("apex_lab: search full after ");
-    let mut buffer = Buffer::new();
-    line.push_str(buffer.format(room));
+    push_number(&mut line, room);
     line.push_str(" states\n");
     line
-}
-
-fn put_bytes(line: &mut ProcessLine, bytes: &[u8])
-    requires { array_vec_len line.old + length bytes.now ≤ PROCESS_ROOM }
-    ensures text { line.new.items ≡ line.old.items ++ bytes.now }
-    ensures len { array_vec_len line.new ≡ array_vec_len line.old + length bytes.now }
-{
-    let taken = line.try_extend_from_slice(bytes);
-    let fits = taken.is_ok();
-    prove!(fits);
 }
 
 /// The line that reports that there is no process of this name or number.
@@ -155,8 +141,8 @@ pub fn process_line(name: &Name) -> ProcessLine
     ensures { result.items ≡ process_line name.now }
 {
     let mut line = ProcessLine::new();
-    put_bytes(&mut line, b"apex_lab: no process ");
+    put(&mut line, "apex_lab: no process ");
     put_bytes(&mut line, name.as_bytes());
-    put_bytes(&mut line, b"\n");
+    put(&mut line, "\n");
     line
 }

@@ -1,55 +1,14 @@
-//! The words for states, waits and notices.
-ghost use Rattle.std.specs.Prelude.{◌≡◌, ◌≤◌, ◌++◌, length, OnOk};
+//! The words for waits and notices.
+ghost use Rattle.std.specs.Prelude.{◌≡◌, ◌++◌, OnOk};
 ghost use Rattle.apex_machine.specs.text.Texts.{id_text};
 ghost use Rattle.apex_moments.specs.Texts.{part_text};
-ghost use Rattle.apex_calls.specs.Lines.{code_text, deadline_text};
-ghost use Rattle.apex_machine.specs.text.Status.{state_text, wait_text};
+ghost use Rattle.apex_machine.specs.text.Status.{wait_text};
 ghost use Rattle.apex_moments.specs.Words.{notice_word, profile_number};
 
 use crate::texts::{Part, put, put_number};
 use apex_machine::{Profile, Wait};
-use apex_types::{DeadlineType, Id, Notice, ReturnCode, State};
+use apex_types::{Id, Notice};
 use std::alloc::AllocError;
-
-/// The word for a state.
-pub fn state_word(state: State) -> &'static str
-    ensures value { result.now ≡ state_text state }
-    ensures short { length result.now ≤ 7 }
-{
-    match state {
-        State::Dormant => "DORMANT",
-        State::Ready => "READY",
-        State::Running => "RUNNING",
-        State::Waiting => "WAITING",
-    }
-}
-
-/// The word for the type of a deadline.
-pub fn deadline_word(deadline: DeadlineType) -> &'static str
-    ensures value { result.now ≡ deadline_text deadline }
-    ensures short { length result.now ≤ 14 }
-{
-    match deadline {
-        DeadlineType::Soft => "soft",
-        DeadlineType::Hard => "hard",
-    }
-}
-
-/// The word for a return code.
-pub fn code_word(code: ReturnCode) -> &'static str
-    ensures value { result.now ≡ code_text code }
-    ensures short { length result.now ≤ 14 }
-{
-    match code {
-        ReturnCode::NoError => "NO_ERROR",
-        ReturnCode::NoAction => "NO_ACTION",
-        ReturnCode::NotAvailable => "NOT_AVAILABLE",
-        ReturnCode::InvalidParam => "INVALID_PARAM",
-        ReturnCode::InvalidConfig => "INVALID_CONFIG",
-        ReturnCode::InvalidMode => "INVALID_MODE",
-        ReturnCode::TimedOut => "TIMED_OUT",
-    }
-}
 
 /// The word for a notice.
 pub fn notice_word(notice: &Notice) -> &'static str

@@ -1,7 +1,6 @@
 //! The objects of what a session answers besides entries and rows.
-ghost use Rattle.std.specs.Prelude.{◌≡◌, ◌+◌, ◌*◌, ◌≤◌, ◌++◌, decimal, length};
+ghost use Rattle.std.specs.Prelude.{◌≡◌, ◌+◌, ◌≤◌, ◌++◌, decimal, length};
 ghost use Rattle.arrayvec.specs.ArrayVec.{array_vec_len};
-ghost use Rattle.apex_json.specs.declared.strings.TheConstants.{MOST_ESCAPE};
 ghost use Rattle.apex_types.specs.declared.limits.TheConstants.{MOST_CORES};
 ghost use Rattle.apex_objects.specs.Answers.{count_object, fault_object, front_object, next_object};
 ghost use Rattle.apex_objects.specs.Parts.{or_null, process_object};
@@ -9,17 +8,16 @@ ghost use Rattle.apex_objects.specs.declared.answers.TheConstants.{MOST_FAULT};
 ghost use Rattle.apex_objects.specs.declared.lines.TheConstants.{MOST_OBJECT, OBJECTS_ROOM};
 
 use crate::elements::{Element, put_array};
-use crate::lines::{
-    MOST_OBJECT, OBJECTS_ROOM, ObjectLines, put, put_instant, put_number, put_string,
-};
+use crate::lines::{MOST_OBJECT, OBJECTS_ROOM, ObjectLines, put_instant, put_string};
 use apex_configs::Table;
+use apex_texts::{put, put_long_number, put_number};
 use apex_types::ProcessId;
 
 impl Element for u8 {
     ghost text = { λ table number. decimal number };
 
     fn put_element(&self, line: &mut ObjectLines, _table: &Table) {
-        put_number(line, u64::from(*self));
+        put_number(line, u32::from(*self));
     }
 }
 
@@ -44,7 +42,7 @@ pub fn put_count(line: &mut ObjectLines, key: &str, count: u64)
     put(line, "{\"");
     put(line, key);
     put(line, "\":");
-    put_number(line, count);
+    put_long_number(line, count);
     put(line, "}\n");
 }
 
@@ -91,9 +89,9 @@ pub fn put_front(
     ensures { line.new.items ≡ line.old.items ++ front_object table.now entries now running.now }
 {
     put(line, "{\"front\":");
-    put_number(line, entries);
+    put_long_number(line, entries);
     put(line, ",\"now\":");
-    put_number(line, now);
+    put_long_number(line, now);
     put(line, ",\"running\":");
     put_array(line, table, running);
     put(line, "}\n");

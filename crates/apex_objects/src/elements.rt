@@ -1,19 +1,20 @@
 //! Arrays, and what their elements have in common.
 ghost use Rattle.std.specs.Prelude.{◌≡◌, ◌+◌, ◌*◌, ◌≤◌, ◌++◌, ℕ, List, flat_map, length};
 ghost use Rattle.arrayvec.specs.ArrayVec.{array_vec_len};
-ghost use Rattle.apex_calls.specs.Lines.{code_text, deadline_text};
 ghost use Rattle.apex_machine.specs.table.Table as tables;
 ghost use Rattle.apex_machine.specs.text.Status.{behind_text};
 ghost use Rattle.apex_objects.specs.Entries.{notice_object, noticed_part};
 ghost use Rattle.apex_objects.specs.Parts.{array_text, elements_text, holding_object, message_string, process_object};
 ghost use Rattle.apex_objects.specs.declared.lines.TheConstants.{ELEMENT_ROOM, OBJECTS_ROOM, THING_ROOM};
 
-use crate::lines::{ELEMENT_ROOM, ObjectLines, put, put_process, put_thing};
-use crate::messages::put_message;
+use crate::lines::{ELEMENT_ROOM, ObjectLines, put_process, put_thing};
+use crate::messages::put_message_string;
 use apex_configs::Table;
+use apex_history::{code_word, deadline_word};
 use apex_machine::Holding;
 use apex_names::{mutex_name, process_name};
-use apex_types::{DeadlineType, Message, Notice, ProcessId, ReturnCode};
+use apex_texts::put;
+use apex_types::{Message, Notice, ProcessId};
 
 /// An element of an array.
 pub(crate) trait Element {
@@ -103,32 +104,7 @@ impl Element for Message {
     ghost text = { message_string };
 
     fn put_element(&self, line: &mut ObjectLines, table: &Table) {
-        put_message(line, table, self);
-    }
-}
-
-fn code_word(code: &ReturnCode) -> &'static str
-    ensures value { result.now ≡ code_text code.now }
-    ensures short { length result.now ≤ 14 }
-{
-    match code {
-        ReturnCode::NoError => "NO_ERROR",
-        ReturnCode::NoAction => "NO_ACTION",
-        ReturnCode::NotAvailable => "NOT_AVAILABLE",
-        ReturnCode::InvalidParam => "INVALID_PARAM",
-        ReturnCode::InvalidConfig => "INVALID_CONFIG",
-        ReturnCode::InvalidMode => "INVALID_MODE",
-        ReturnCode::TimedOut => "TIMED_OUT",
-    }
-}
-
-fn deadline_word(deadline: &DeadlineType) -> &'static str
-    ensures value { result.now ≡ deadline_text deadline.now }
-    ensures short { length result.now ≤ 4 }
-{
-    match deadline {
-        DeadlineType::Soft => "soft",
-        DeadlineType::Hard => "hard",
+        put_message_string(line, table, self);
     }
 }
 
@@ -151,7 +127,7 @@ impl Element for Notice {
                 put(line, "{\"notice\":\"woken\"");
                 put_noticed(line, table, *process);
                 put(line, ",\"code\":\"");
-                put(line, code_word(code));
+                put(line, code_word(*code));
                 put(line, "\"}");
             }
             Notice::Released(process) => {
@@ -163,7 +139,7 @@ impl Element for Notice {
                 put(line, "{\"notice\":\"missed\"");
                 put_noticed(line, table, *process);
                 put(line, ",\"deadline\":\"");
-                put(line, deadline_word(deadline));
+                put(line, deadline_word(*deadline));
                 put(line, "\"}");
             }
         }

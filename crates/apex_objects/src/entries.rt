@@ -6,9 +6,10 @@ ghost use Rattle.apex_objects.specs.Entries.{caller_part, entry_object, front_pa
 ghost use Rattle.apex_objects.specs.declared.lines.TheConstants.{MOST_OBJECT, OBJECTS_ROOM, THING_ROOM};
 
 use crate::elements::put_array;
-use crate::lines::{ObjectLines, put, put_number, put_process};
+use crate::lines::{ObjectLines, put_process};
 use crate::texts::put_texts;
 use apex_configs::Table;
+use apex_texts::{put, put_long_number, put_number};
 use apex_types::{Caller, LentEntry, Who};
 
 /// The maker of an event.
@@ -21,7 +22,7 @@ fn put_who(line: &mut ObjectLines, who: &Who)
     match who {
         Who::Core(core) => {
             put(line, "core");
-            put_number(line, u64::from(core.number()));
+            put_number(line, u32::from(core.number()));
         }
         Who::Ticker => put(line, "ticker"),
     }
@@ -50,9 +51,9 @@ fn put_front(line: &mut ObjectLines, table: &Table, entry: &LentEntry<'_>)
     ensures short { array_vec_len line.new ≤ array_vec_len line.old + 400 }
 {
     put(line, "{\"number\":");
-    put_number(line, u64::from(entry.number));
+    put_number(line, entry.number);
     put(line, ",\"now\":");
-    put_number(line, entry.now);
+    put_long_number(line, entry.now);
     put(line, ",\"who\":\"");
     put_who(line, &entry.who);
     put(line, "\"");

@@ -10,9 +10,9 @@ ghost use Rattle.apex_objects.specs.declared.lines.TheConstants.{OBJECTS_ROOM, T
 use apex_configs::Table;
 use apex_json::{MOST_ESCAPE, add_json};
 use apex_names::process_name;
+use apex_texts::{put, put_long_number, put_number};
 use apex_types::{Id, MOST_LINE, MOST_NAME, MOST_NOTICES, ProcessId};
 use arrayvec::ArrayVec;
-use itoa::Buffer;
 
 /// The most bytes of a thing's id and of its name as a string.
 pub(crate) const THING_ROOM: usize = 20 + MOST_ESCAPE * MOST_NAME + 2;
@@ -34,25 +34,6 @@ pub const OBJECTS_ROOM: usize = 65_536;
 /// an object takes at most [`MOST_OBJECT`].
 pub type ObjectLines = ArrayVec<u8, OBJECTS_ROOM>;
 
-pub(crate) fn put(line: &mut ObjectLines, text: &str)
-    requires { array_vec_len line.old + length text.now ≤ OBJECTS_ROOM }
-    ensures text { line.new.items ≡ line.old.items ++ text.now }
-    ensures len { array_vec_len line.new ≡ array_vec_len line.old + length text.now }
-{
-    let taken = line.try_extend_from_slice(text.as_bytes());
-    let fits = taken.is_ok();
-    prove!(fits);
-}
-
-pub(crate) fn put_number(line: &mut ObjectLines, number: u64)
-    requires { array_vec_len line.old + 20 ≤ OBJECTS_ROOM }
-    ensures text { line.new.items ≡ line.old.items ++ decimal number }
-    ensures short { array_vec_len line.new ≤ array_vec_len line.old + 20 }
-{
-    let mut buffer = Buffer::new();
-    put(line, buffer.format(number));
-}
-
 /// Puts an instant in ticks, or `null`.
 pub(crate) fn put_instant(line: &mut ObjectLines, instant: &Option<u64>)
     requires { array_vec_len line.old + 20 ≤ OBJECTS_ROOM }
@@ -60,7 +41,7 @@ pub(crate) fn put_instant(line: &mut ObjectLines, instant: &Option<u64>)
     ensures short { array_vec_len line.new ≤ array_vec_len line.old + 20 }
 {
     match instant {
-        Some(instant) => put_number(line, *instant),
+        Some(instant) => put_long_number(line, *instant),
         None => put(line, "null"),
     }
 }
@@ -70,7 +51,7 @@ fn put_id<K: Copy>(line: &mut ObjectLines, id: Id<K>)
     ensures text { line.new.items ≡ line.old.items ++ id_text id }
     ensures short { array_vec_len line.new ≤ array_vec_len line.old + 20 }
 {
-    put_number(line, u64::from(id.number()));
+    put_number(line, id.number());
 }
 
 /// Puts bytes as a string.

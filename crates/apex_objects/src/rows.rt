@@ -2,23 +2,22 @@
 ghost use Rattle.std.specs.Prelude.{◌≡◌, ◌+◌, ◌≤◌, ◌++◌, length};
 ghost use Rattle.arrayvec.specs.ArrayVec.{array_vec_len};
 ghost use Rattle.apex_types.specs.declared.limits.TheConstants.{MOST_MESSAGES, MOST_PROCESSES};
-ghost use Rattle.apex_machine.specs.text.Status.{operating_mode_text, state_text, up_text};
 ghost use Rattle.apex_objects.specs.Parts.{or_null};
 ghost use Rattle.apex_objects.specs.Rows as rows;
 ghost use Rattle.apex_objects.specs.declared.lines.TheConstants.{MOST_OBJECT, OBJECTS_ROOM};
 ghost use Rattle.apex_objects.specs.declared.rows.TheConstants.{QUEUE_ROOM};
 
 use crate::elements::put_array;
-use crate::lines::{
-    ELEMENT_ROOM, ObjectLines, put, put_instant, put_number, put_process, put_thing,
-};
+use crate::lines::{ELEMENT_ROOM, ObjectLines, put_instant, put_process, put_thing};
 use crate::messages::put_optional_message;
 use crate::waits::put_optional_wait;
 use apex_configs::Table;
+use apex_history::{mode_word, state_word, up_word};
 use apex_machine::{Record, Suspender};
 use apex_names::{
     blackboard_name, buffer_name, event_flag_name, mutex_name, process_name, semaphore_name,
 };
+use apex_texts::{put, put_long_number, put_number};
 use apex_types::{
     BlackboardId, BufferId, CoreId, EventId, MOST_PROCESSES, Message, Mode, MutexId, ProcessId,
     SemaphoreId, State,
@@ -34,19 +33,8 @@ pub(crate) fn put_time(line: &mut ObjectLines, now: u64)
     ensures short { array_vec_len line.new ≤ array_vec_len line.old + 40 }
 {
     put(line, "{\"time\":");
-    put_number(line, now);
+    put_long_number(line, now);
     put(line, "}\n");
-}
-
-fn mode_word(mode: &Mode) -> &'static str
-    ensures value { result.now ≡ operating_mode_text mode.now }
-    ensures short { length result.now ≤ 10 }
-{
-    match mode {
-        Mode::Idle => "IDLE",
-        Mode::ColdStart => "COLD_START",
-        Mode::Normal => "NORMAL",
-    }
 }
 
 #[tactic(auto, using(std::proofs::Common::append_assoc))]
@@ -56,7 +44,7 @@ pub(crate) fn put_mode(line: &mut ObjectLines, mode: &Mode)
     ensures short { array_vec_len line.new ≤ array_vec_len line.old + 40 }
 {
     put(line, "{\"mode\":\"");
-    put(line, mode_word(mode));
+    put(line, mode_word(*mode));
     put(line, "\"}\n");
 }
 
@@ -67,7 +55,7 @@ pub(crate) fn put_history(line: &mut ObjectLines, entries: u32)
     ensures short { array_vec_len line.new ≤ array_vec_len line.old + 40 }
 {
     put(line, "{\"history\":");
-    put_number(line, u64::from(entries));
+    put_number(line, entries);
     put(line, "}\n");
 }
 
@@ -82,21 +70,9 @@ pub(crate) fn put_core(
     ensures { line.new.items ≡ line.old.items ++ rows.core_object table.now core running.now }
 {
     put(line, "{\"core\":");
-    put_number(line, u64::from(core.number()));
+    put_number(line, u32::from(core.number()));
     put_process(line, table, ",\"running\":", ",\"name\":", running);
     put(line, "}\n");
-}
-
-fn state_word(state: &State) -> &'static str
-    ensures value { result.now ≡ state_text state.now }
-    ensures short { length result.now ≤ 7 }
-{
-    match state {
-        State::Dormant => "DORMANT",
-        State::Ready => "READY",
-        State::Running => "RUNNING",
-        State::Waiting => "WAITING",
-    }
 }
 
 /// A process's state, priorities and core.
@@ -107,13 +83,13 @@ fn put_state(line: &mut ObjectLines, state: &State, fields: &Record)
     ensures short { array_vec_len line.new ≤ array_vec_len line.old + 120 }
 {
     put(line, ",\"state\":\"");
-    put(line, state_word(state));
+    put(line, state_word(*state));
     put(line, "\",\"base\":");
-    put_number(line, u64::from(fields.base));
+    put_number(line, u32::from(fields.base));
     put(line, ",\"current\":");
-    put_number(line, u64::from(fields.current_priority()));
+    put_number(line, u32::from(fields.current_priority()));
     put(line, ",\"core\":");
-    put_number(line, u64::from(fields.core.number()));
+    put_number(line, u32::from(fields.core.number()));
 }
 
 /// The instants at which a process's wait ends, and its deadline passes.
@@ -205,7 +181,7 @@ pub(crate) fn put_semaphore(
     let name = semaphore_name(table, semaphore);
     put_thing(line, "{\"semaphore\":", semaphore, ",\"name\":", name);
     put(line, ",\"value\":");
-    put_number(line, u64::from(value));
+    put_number(line, u32::from(value));
     put_waiting(line, table, waiting);
 }
 
@@ -250,14 +226,6 @@ pub(crate) fn put_blackboard(
     put_waiting(line, table, waiting);
 }
 
-/// Whether an event flag is up.
-fn up_word(up: bool) -> &'static str
-    ensures value { result.now ≡ up_text up }
-    ensures short { length result.now ≤ 4 }
-{
-    if up { "UP" } else { "DOWN" }
-}
-
 #[tactic(auto, using(std::proofs::Common::append_assoc))]
 pub(crate) fn put_event_flag(
     line: &mut ObjectLines,
@@ -297,6 +265,6 @@ pub(crate) fn put_mutex(
     put_thing(line, "{\"mutex\":", mutex, ",\"name\":", name);
     put_process(line, table, ",\"owner\":", ",\"of\":", owner);
     put(line, ",\"depth\":");
-    put_number(line, u64::from(depth));
+    put_number(line, u32::from(depth));
     put_waiting(line, table, waiting);
 }

@@ -9,10 +9,11 @@ ghost use Rattle.apex_objects.specs.declared.lines.TheConstants.{OBJECTS_ROOM};
 ghost use Rattle.apex_objects.specs.declared.texts.TheConstants.{ARROW, FRONT, TEXTS_ROOM};
 ghost use Rattle.apex_types.specs.declared.limits.TheConstants.{MOST_LINE};
 
-use crate::lines::{ObjectLines, put, put_string};
+use crate::lines::{ObjectLines, put_string};
 use apex_configs::Table;
 use apex_history::{Lines, NextSteps, put_line};
 use apex_json::MOST_ESCAPE;
+use apex_texts::put;
 use apex_types::{Call, Caller, LentEntry, MOST_LINE, Reply, Who};
 
 /// The most bytes of the texts of a call and of a reply as two members.

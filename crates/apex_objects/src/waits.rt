@@ -6,10 +6,11 @@ ghost use Rattle.apex_objects.specs.Rows.{object_wait, optional_wait_part, plain
 ghost use Rattle.apex_objects.specs.declared.lines.TheConstants.{OBJECTS_ROOM, THING_ROOM};
 ghost use Rattle.apex_objects.specs.declared.waits.TheConstants.{WAIT_ROOM};
 
-use crate::lines::{ObjectLines, THING_ROOM, put, put_thing};
+use crate::lines::{ObjectLines, THING_ROOM, put_thing};
 use apex_configs::Table;
 use apex_machine::Wait;
 use apex_names::{blackboard_name, buffer_name, event_flag_name, mutex_name, semaphore_name};
+use apex_texts::put;
 use apex_types::Id;
 
 /// The most bytes of a wait.

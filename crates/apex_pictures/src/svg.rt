@@ -7,11 +7,10 @@ ghost use Rattle.apex_pictures.specs.Svg.{bare, bar_text, call_at, call_end, cal
 
 use crate::frames::Frame;
 use apex_configs::Table;
-use apex_history::{Lines, NextSteps, put_line};
+use apex_history::{Lines, NextSteps, put_line, state_word};
 use apex_machine::Holding;
 use apex_moments::{
     Cell, Moment, Part, id_part, notice_word, put, put_all, put_object, put_wait, put_xml,
-    state_word,
 };
 use apex_names::process_name;
 use apex_types::{Caller, LentEntry, Notice, ProcessId, Who};

@@ -1,13 +1,14 @@
 //! The text of a census.
-ghost use Rattle.std.specs.Prelude.{◌≡◌, ◌+◌, ◌≤◌, ◌++◌, flat_map, length, option_map, OnErr, OnOk};
+ghost use Rattle.std.specs.Prelude.{◌≡◌, ◌≤◌, flat_map, length, OnErr, OnOk};
 ghost use Rattle.std.specs.Io.KnownBytes.{Appends};
 ghost use Rattle.apex_history.specs.Counted.{inner_of, failures_of, CountsFailure, AppendsBeginning};
 ghost use Rattle.apex_printouts.specs.Censuses.{census_text, end_text, finding_line, word_or_dash};
 
-use crate::texts::{Text, none_within_states, put_number, states_line};
+use crate::texts::{Text, none_within_states, states_line};
 use apex_history::{Counted, Sink};
 use apex_questions::{Fact, word_of};
 use apex_search::{Census, End, Finding};
+use apex_texts::push_long_number;
 use std::io::{Result, Write};
 
 /// The word of a fact, or `-` if it has none.
@@ -26,7 +27,7 @@ fn finding_line(finding: &Finding) -> Text
     ensures { result.bytes ≡ finding_line finding.now }
 {
     let mut text = Text::new();
-    put_number(&mut text, finding.path.len());
+    push_long_number(&mut text, finding.path.len() as u64);
     text.push_str(" ");
     text.push_str(word_or_dash(finding.fact));
     text.push_str("\n");

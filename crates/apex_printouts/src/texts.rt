@@ -1,27 +1,18 @@
 //! The lines of an answer, but for those of a schedule and of an entry.
-ghost use Rattle.std.specs.Prelude.{◌≡◌, ◌+◌, ◌≤◌, ◌++◌, decimal};
+ghost use Rattle.std.specs.Prelude.{◌≡◌, ◌+◌, ◌≤◌, ◌++◌};
 ghost use Rattle.arrayvec.specs.ArrayString.{array_string_len};
 ghost use Rattle.apex_answers.specs.Texts.{found_head, never_text, states_text, within_text};
 ghost use Rattle.apex_printouts.specs.declared.texts.TheConstants.{TEXT_ROOM};
 
+use apex_texts::push_long_number;
 use apex_types::Event;
 use arrayvec::ArrayString;
-use itoa::Buffer;
 
 /// Room for the bytes of these lines.
 const TEXT_ROOM: usize = 96;
 
 /// Lines of an answer.
 pub(crate) type Text = ArrayString<TEXT_ROOM>;
-
-pub(crate) fn put_number(text: &mut Text, number: usize)
-    requires { array_string_len text.old + 20 ≤ TEXT_ROOM }
-    ensures text { text.new.bytes ≡ text.old.bytes ++ decimal number }
-    ensures short { array_string_len text.new ≤ array_string_len text.old + 20 }
-{
-    let mut buffer = Buffer::new();
-    text.push_str(buffer.format(number));
-}
 
 /// Puts the line of a number of states.
 #[tactic(auto, using(std::proofs::Common::append_assoc))]
@@ -30,7 +21,7 @@ pub(crate) fn put_states(text: &mut Text, states: usize)
     ensures { text.new.bytes ≡ text.old.bytes ++ states_text states }
 {
     text.push_str("states: ");
-    put_number(text, states);
+    push_long_number(text, states as u64);
     text.push_str("\n");
 }
 
@@ -40,7 +31,7 @@ pub(crate) fn found_head(events: &[Event]) -> Text
 {
     let mut text = Text::new();
     text.push_str("found at ");
-    put_number(&mut text, events.len());
+    push_long_number(&mut text, events.len() as u64);
     text.push_str("\n");
     text
 }
@@ -69,7 +60,7 @@ pub(crate) fn none_within(depth: usize) -> Text
 {
     let mut text = Text::new();
     text.push_str("none within ");
-    put_number(&mut text, depth);
+    push_long_number(&mut text, depth as u64);
     text.push_str("\n");
     text
 }

@@ -7,12 +7,13 @@ ghost use Rattle.apex_search.specs.Worst.{schedule_in};
 ghost use Rattle.apex_answers.specs.Worst.{bound_text, head_text, run_part, tail_text, worst_text};
 
 use crate::answers::write_run;
-use crate::texts::{Text, none_within, put_number, put_states, states_line};
+use crate::texts::{Text, none_within, put_states, states_line};
 use apex_answers::WorstAnswer;
 use apex_dispatch::Kernel;
 use apex_history::{Counted, Sink};
 use apex_search::{Slowest, Worst};
 use apex_store::Store;
+use apex_texts::push_long_number;
 use apex_types::Event;
 use std::io::{Result, Write};
 
@@ -25,7 +26,7 @@ fn number_line(words: &str, number: usize) -> Text
 {
     let mut text = Text::new();
     text.push_str(words);
-    put_number(&mut text, number);
+    push_long_number(&mut text, number as u64);
     text.push_str("\n");
     text
 }

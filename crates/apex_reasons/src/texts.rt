@@ -1,5 +1,5 @@
 //! The text of a reason.
-ghost use Rattle.std.specs.Prelude.{◌≡◌, ◌+◌, ◌≤◌, ◌++◌, codes, length, decimal};
+ghost use Rattle.std.specs.Prelude.{◌≡◌, ◌+◌, ◌≤◌, ◌++◌, codes, length};
 ghost use Rattle.arrayvec.specs.ArrayVec.{array_vec_len};
 ghost use Rattle.apex_calls.specs.Lines.{code_text};
 ghost use Rattle.apex_reasons.specs.Texts.{actor_text, cause_text, head_of, reason_text, step_text, words_of};
@@ -12,9 +12,9 @@ use crate::reasons::Reason;
 use crate::rules::{Rule, WaitCause};
 use apex_configs::Table;
 use apex_names::process_name;
+use apex_texts::{put, put_bytes, put_long_number};
 use apex_types::{Caller, MOST_NAME, ReturnCode};
 use arrayvec::ArrayVec;
-use itoa::Buffer;
 
 /// Room for a caller and its step: a name, a number, and the words around them.
 const ACTOR_ROOM: usize = MOST_NAME + 20 + 8;
@@ -27,16 +27,6 @@ const TEXT_ROOM: usize = ACTOR_ROOM + RULE_ROOM;
 
 /// The text of a reason, without a line feed.
 pub type ReasonText = ArrayVec<u8, TEXT_ROOM>;
-
-fn put(text: &mut ReasonText, part: &[u8])
-    requires { array_vec_len text.old + length part.now ≤ TEXT_ROOM }
-    ensures text { text.new.items ≡ text.old.items ++ part.now }
-    ensures len { array_vec_len text.new ≡ array_vec_len text.old + length part.now }
-{
-    let taken = text.try_extend_from_slice(part);
-    let fits = taken.is_ok();
-    prove!(fits);
-}
 
 /// A code, and what stands between it and a guard's sentence.
 fn code_head(code: ReturnCode) -> &'static str
@@ -61,9 +51,8 @@ fn put_step(text: &mut ReasonText, step: Option<usize>)
     ensures short { array_vec_len text.new ≤ array_vec_len text.old + 26 }
 {
     if let Some(step) = step {
-        put(text, b" step ");
-        let mut buffer = Buffer::new();
-        put(text, buffer.format(step).as_bytes());
+        put(text, " step ");
+        put_long_number(text, step as u64);
     }
 }
 
@@ -74,12 +63,12 @@ fn put_actor(text: &mut ReasonText, table: &Table, caller: &Caller, step: Option
     ensures short { array_vec_len text.new ≤ array_vec_len text.old + ACTOR_ROOM }
 {
     match caller {
-        Caller::Process(process) => put(text, process_name(table, *process)),
-        Caller::Init => put(text, b"init"),
+        Caller::Process(process) => put_bytes(text, process_name(table, *process)),
+        Caller::Init => put(text, "init"),
         Caller::Nobody => return,
     }
     put_step(text, step);
-    put(text, b": ");
+    put(text, ": ");
 }
 
 impl WaitCause {
@@ -146,8 +135,8 @@ impl Reason {
     {
         let mut text = ReasonText::new();
         put_actor(&mut text, table, &self.caller, self.step);
-        put(&mut text, head_of(&self.rule).as_bytes());
-        put(&mut text, words_of(&self.rule).as_bytes());
+        put(&mut text, head_of(&self.rule));
+        put(&mut text, words_of(&self.rule));
         text
     }
 }

@@ -8,13 +8,14 @@ ghost use Rattle.apex_report.specs.Json.{array_text, arrays_text, elements_text,
 ghost use Rattle.apex_report.specs.Rows.{behind_text};
 ghost use Rattle.apex_report.specs.Texts.{IsReportOf};
 
-use crate::lines::{Line, put, put_number};
+use crate::lines::Line;
 use crate::printing::{print_rows, row_line};
 use crate::reports::Report;
 use crate::rows::Figures;
 use apex_configs::Table;
 use apex_history::{Counted, Sink};
 use apex_json::Form;
+use apex_texts::{put, put_number};
 use std::io::{Result, Write};
 
 /// Writes the objects of figures, of which there is a first.

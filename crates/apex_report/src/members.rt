@@ -7,8 +7,9 @@ ghost use Rattle.apex_report.specs.declared.lines.TheConstants.{LINE_ROOM};
 ghost use Rattle.apex_report.specs.declared.members.TheConstants.{MOST_STRING};
 ghost use Rattle.apex_report.specs.Members.{key_in, name_in, room_of, text_of, value_in};
 
-use crate::lines::{Line, put, put_bytes, put_long_number};
+use crate::lines::Line;
 use apex_json::{Form, MOST_ESCAPE, add_json};
+use apex_texts::{put, put_bytes, put_long_number};
 use apex_types::MOST_NAME;
 
 /// The one of the two that belongs to the form.

@@ -9,7 +9,7 @@ ghost use Rattle.apex_report.specs.declared.lines.TheConstants.{LINE_ROOM};
 ghost use Rattle.apex_report.specs.declared.members.TheConstants.{MOST_STRING};
 ghost use Rattle.apex_report.specs.declared.rows.TheConstants.{FRONT};
 
-use crate::lines::{Line, put};
+use crate::lines::Line;
 use crate::members::{Member, pick, put_key, put_members, put_name};
 use crate::objects::{Level, ObjectFigures};
 use crate::ownerships::Ownership;
@@ -18,6 +18,7 @@ use apex_configs::Table;
 use apex_json::Form;
 use apex_machine::Queue;
 use apex_names::{object_name, process_name};
+use apex_texts::put;
 
 /// The kind of an object.
 fn kind_name(queue: &Queue) -> &'static str

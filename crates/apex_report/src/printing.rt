@@ -8,13 +8,14 @@ ghost use Rattle.apex_report.specs.Rows.{behind_text};
 ghost use Rattle.apex_report.specs.Texts.{lines_of, report_text, IsOfTable, IsReportOf};
 ghost use Rattle.apex_report.specs.declared.rows.TheConstants.{FRONT};
 
-use crate::lines::{Line, put, put_number};
+use crate::lines::Line;
 use crate::members::pick;
 use crate::reports::Report;
 use crate::rows::Figures;
 use apex_configs::Table;
 use apex_history::{Counted, Sink};
 use apex_json::Form;
+use apex_texts::{put, put_number};
 use std::io::{Result, Write};
 
 /// The number of entries, which comes first.

@@ -12,7 +12,7 @@ ghost use Rattle.apex_report.specs.declared.rows.TheConstants.{FRONT};
 
 use crate::cores::CoreFigures;
 use crate::jobs::Job;
-use crate::lines::{Line, put, put_number};
+use crate::lines::Line;
 use crate::members::{Member, pick, put_members, put_name};
 use crate::processes::ProcessFigures;
 use crate::refusals::Refusals;
@@ -21,6 +21,7 @@ use apex_calls::row_of;
 use apex_configs::Table;
 use apex_json::Form;
 use apex_names::process_name;
+use apex_texts::{put, put_number};
 
 /// The most bytes in a line before a row.
 pub(crate) const FRONT: usize = 2;

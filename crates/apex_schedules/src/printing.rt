@@ -1,5 +1,5 @@
 //! Events printed as the text of a schedule.
-ghost use Rattle.std.specs.Prelude.{◌≡◌, ◌+◌, ◌<◌, ◌≤◌, ◌++◌, decimal, length, not, slice_get, Some, IfErr, OnErr, OnOk};
+ghost use Rattle.std.specs.Prelude.{◌≡◌, ◌+◌, ◌<◌, ◌≤◌, ◌++◌, length, not, slice_get, Some, IfErr, OnErr, OnOk};
 ghost use Rattle.std.specs.Io.KnownBytes.{Appends};
 ghost use Rattle.std.specs.List.{position, position_or_len};
 ghost use Rattle.arrayvec.specs.ArrayVec.{array_vec_len};
@@ -9,9 +9,9 @@ ghost use Rattle.apex_schedules.specs.Printing.{is_turn_of, item_for, item_text,
 ghost use Rattle.apex_schedules.specs.declared.printing.TheConstants.{ITEM_ROOM, TEXT_ROOM};
 
 use apex_history::{Counted, Sink};
+use apex_texts::{put_long_number, put_number};
 use apex_types::{CoreId, Event};
 use arrayvec::ArrayVec;
-use itoa::Buffer;
 use std::io::{Result, Write};
 
 /// The most bytes of an item, with the space behind it.
@@ -23,25 +23,6 @@ const TEXT_ROOM: usize = 4_096;
 /// A part of a schedule's text, which is written at once.
 type Text = ArrayVec<u8, TEXT_ROOM>;
 
-fn put_bytes(text: &mut Text, bytes: &[u8])
-    requires { array_vec_len text.old + length bytes.now ≤ TEXT_ROOM }
-    ensures text { text.new.items ≡ text.old.items ++ bytes.now }
-    ensures len { array_vec_len text.new ≡ array_vec_len text.old + length bytes.now }
-{
-    let taken = text.try_extend_from_slice(bytes);
-    let fits = taken.is_ok();
-    prove!(fits);
-}
-
-fn put_number(text: &mut Text, number: usize)
-    requires { array_vec_len text.old + 20 ≤ TEXT_ROOM }
-    ensures text { text.new.items ≡ text.old.items ++ decimal number }
-    ensures short { array_vec_len text.new ≤ array_vec_len text.old + 20 }
-{
-    let mut buffer = Buffer::new();
-    put_bytes(text, buffer.format(number).as_bytes());
-}
-
 /// The number of times behind a core, unless it is 1.
 #[tactic(auto, using(std::proofs::Common::append_assoc))]
 fn put_times(text: &mut Text, times: usize)
@@ -51,7 +32,7 @@ fn put_times(text: &mut Text, times: usize)
 {
     if times != 1 {
         text.push(b'*');
-        put_number(text, times);
+        put_long_number(text, times as u64);
     }
 }
 
@@ -110,7 +91,7 @@ fn put_item(text: &mut Text, event: Event, times: usize)
         }
         Event::Tick(ticks) => {
             text.push(b't');
-            put_number(text, ticks as usize);
+            put_number(text, ticks);
         }
     }
 }

@@ -10,7 +10,7 @@ ghost use Rattle.apex_steps.specs.Conversations.{IsFlushed};
 ghost use Rattle.apex_steps.specs.Texts.{body_in, entry_in, listing_in, text_in, text_of};
 
 use crate::answers::Saying;
-use crate::sayings::{put, say_front, say_last, say_next};
+use crate::sayings::{say_front, say_last, say_next};
 use crate::sessions::Session;
 use apex_configs::Table;
 use apex_dispatch::Kernel;
@@ -18,6 +18,7 @@ use apex_history::{Counted, Lines, NextSteps, Page, Sink, put_line};
 use apex_json::Form;
 use apex_objects::{ObjectLines, hand_on, make_room, print_listing_objects, put_entry_object};
 use apex_store::Store;
+use apex_texts::put_bytes;
 use apex_types::LentEntry;
 use std::alloc::{AllocError, Global};
 use std::io::{Result, Write};
@@ -70,7 +71,7 @@ impl Desk {
             Form::Text => {
                 self.line.clear();
                 put_line(&mut self.line, table, &mut self.steps, entry);
-                put(&mut self.lines, self.line.as_slice());
+                put_bytes(&mut self.lines, self.line.as_slice());
             }
             Form::Json => put_entry_object(&mut self.lines, table, entry),
         }

@@ -1,5 +1,5 @@
 //! What is said besides entries and the listing, put behind other lines in either form.
-ghost use Rattle.std.specs.Prelude.{◌≡◌, ◌+◌, ◌*◌, ◌≤◌, ◌++◌, length, decimal, flat_map};
+ghost use Rattle.std.specs.Prelude.{◌≡◌, ◌+◌, ◌*◌, ◌≤◌, ◌++◌, length, flat_map};
 ghost use Rattle.arrayvec.specs.ArrayVec.{array_vec_len};
 ghost use Rattle.apex_objects.specs.declared.lines.TheConstants.{MOST_OBJECT, OBJECTS_ROOM};
 ghost use Rattle.apex_steps.specs.Texts.{closing_in, closing_word, fault_in, front_in};
@@ -13,27 +13,8 @@ use apex_dispatch::Kernel;
 use apex_json::Form;
 use apex_objects::{ObjectLines, put_count, put_fault, put_front, put_next};
 use apex_store::Store;
+use apex_texts::{put, put_long_number};
 use apex_types::ProcessId;
-use itoa::Buffer;
-
-pub(crate) fn put(lines: &mut ObjectLines, bytes: &[u8])
-    requires { array_vec_len lines.old + length bytes.now ≤ OBJECTS_ROOM }
-    ensures text { lines.new.items ≡ lines.old.items ++ bytes.now }
-    ensures len { array_vec_len lines.new ≡ array_vec_len lines.old + length bytes.now }
-{
-    let taken = lines.try_extend_from_slice(bytes);
-    let fits = taken.is_ok();
-    prove!(fits);
-}
-
-fn put_number(lines: &mut ObjectLines, number: u64)
-    requires { array_vec_len lines.old + 20 ≤ OBJECTS_ROOM }
-    ensures text { lines.new.items ≡ lines.old.items ++ decimal number }
-    ensures short { array_vec_len lines.new ≤ array_vec_len lines.old + 20 }
-{
-    let mut buffer = Buffer::new();
-    put(lines, buffer.format(number).as_bytes());
-}
 
 /// Puts a number behind a space.
 #[tactic(auto, using(std::proofs::Common::append_assoc))]
@@ -42,8 +23,8 @@ fn put_behind(lines: &mut ObjectLines, number: u64)
     ensures text { lines.new.items ≡ lines.old.items ++ number_behind number }
     ensures short { array_vec_len lines.new ≤ array_vec_len lines.old + 21 }
 {
-    put(lines, b" ");
-    put_number(lines, number);
+    put(lines, " ");
+    put_long_number(lines, number);
 }
 
 /// Puts the instant.
@@ -53,8 +34,8 @@ fn put_instant(lines: &mut ObjectLines, instant: Option<u64>)
     ensures short { array_vec_len lines.new ≤ array_vec_len lines.old + 20 }
 {
     match instant {
-        Some(instant) => put_number(lines, instant),
-        None => put(lines, b"-"),
+        Some(instant) => put_long_number(lines, instant),
+        None => put(lines, "-"),
     }
 }
 
@@ -77,7 +58,7 @@ fn put_running(lines: &mut ObjectLines, running: Option<ProcessId>)
 {
     match running {
         Some(process) => put_behind(lines, u64::from(process.number())),
-        None => put(lines, b" -"),
+        None => put(lines, " -"),
     }
 }
 
@@ -102,10 +83,10 @@ pub(crate) fn say_next<S: Store>(lines: &mut ObjectLines, form: Form, kernel: &K
     let instant = kernel.store().next_instant();
     match form {
         Form::Text => {
-            put(lines, b"next ");
+            put(lines, "next ");
             put_instant(lines, instant);
             put_cores(lines, &cores);
-            put(lines, b"\n");
+            put(lines, "\n");
         }
         Form::Json => put_next(lines, kernel.table(), instant, &cores),
     }
@@ -122,11 +103,11 @@ pub(crate) fn say_front<S: Store>(lines: &mut ObjectLines, form: Form, kernel: &
     let entries = kernel.entries().len() as u64;
     match form {
         Form::Text => {
-            put(lines, b"front");
+            put(lines, "front");
             put_behind(lines, entries);
             put_behind(lines, kernel.now());
             put_all_running(lines, &running);
-            put(lines, b"\n");
+            put(lines, "\n");
         }
         Form::Json => put_front(lines, kernel.table(), entries, kernel.now(), &running),
     }
@@ -140,9 +121,9 @@ fn say_fault(lines: &mut ObjectLines, form: Form, refusal: Refusal)
 {
     match form {
         Form::Text => {
-            put(lines, b"fault ");
-            put(lines, refusal.text().as_bytes());
-            put(lines, b"\n");
+            put(lines, "fault ");
+            put(lines, refusal.text());
+            put(lines, "\n");
         }
         Form::Json => put_fault(lines, refusal.text()),
     }
@@ -166,9 +147,9 @@ fn say_closing<S: Store>(lines: &mut ObjectLines, form: Form, fits: bool, kernel
     let entries = kernel.entries().len() as u64;
     match form {
         Form::Text => {
-            put(lines, word.as_bytes());
+            put(lines, word);
             put_behind(lines, entries);
-            put(lines, b"\n");
+            put(lines, "\n");
         }
         Form::Json => put_count(lines, word, entries),
     }

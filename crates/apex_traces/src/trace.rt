@@ -29,10 +29,9 @@ use crate::stamps::{FRONT, TIMED, Timed, add_begin_front, add_end_front, add_sta
 use crate::tracks::{Tracks, is_still, track_at, track_by};
 use apex_configs::Table;
 use apex_dispatch::Situation;
+use apex_history::{code_word, deadline_word};
 use apex_json::MOST_ESCAPE;
-use apex_moments::{
-    CORES, Part, code_word, deadline_word, id_part, profile_number, put, put_all, running_at,
-};
+use apex_moments::{CORES, Part, id_part, profile_number, put, put_all, running_at};
 use apex_names::process_name;
 use apex_store::Store;
 use apex_types::{CoreId, LentEntry, MOST_NAME, MOST_NOTICES, MutexId, Notice, ProcessId};

@@ -1,5 +1,5 @@
 //! The faults with which a showing ends, and their lines.
-ghost use Rattle.std.specs.Prelude.{◌≡◌, ◌+◌, ◌≤◌, ◌++◌, decimal, length};
+ghost use Rattle.std.specs.Prelude.{◌≡◌, ◌+◌, ◌≤◌, ◌++◌, length};
 ghost use Rattle.arrayvec.specs.ArrayString.{array_string_len};
 ghost use Rattle.apex_console.specs.Faults.{fault_in, fault_of_read};
 ghost use Rattle.apex_console.specs.declared.CliFault.TheVariants.{Memory};
@@ -12,9 +12,9 @@ use apex_console::CliFault;
 use apex_history::ReadFault;
 use apex_pictures::Excerpt;
 use apex_showings::{BadSchedule, Bound, EmptyWindow, ItemsFault, Reason};
+use apex_texts::{push_long_number, push_number};
 use apex_types::{MOST_ENTRIES, Name};
 use arrayvec::ArrayString;
-use itoa::Buffer;
 use std::alloc::AllocError;
 
 /// Room for the bytes of a line that reports a fault.
@@ -84,15 +84,6 @@ pub(crate) fn first_fault(
     }
 }
 
-fn put_number(line: &mut Line, number: usize)
-    requires { array_string_len line.old + 20 ≤ LINE_ROOM }
-    ensures text { line.new.bytes ≡ line.old.bytes ++ decimal number }
-    ensures short { array_string_len line.new ≤ array_string_len line.old + 20 }
-{
-    let mut buffer = Buffer::new();
-    line.push_str(buffer.format(number));
-}
-
 /// The line of a place, unless it is the first one.
 #[tactic(auto, using(std::proofs::Common::append_assoc))]
 fn put_line_part(text: &mut Line, line: usize)
@@ -102,7 +93,7 @@ fn put_line_part(text: &mut Line, line: usize)
 {
     if line != 1 {
         text.push_str(", line ");
-        put_number(text, line);
+        push_long_number(text, line as u64);
     }
 }
 
@@ -113,7 +104,7 @@ fn put_too_many(line: &mut Line)
     ensures short { array_string_len line.new ≤ array_string_len line.old + 36 }
 {
     line.push_str("more than ");
-    put_number(line, MOST_ENTRIES as usize);
+    push_number(line, MOST_ENTRIES);
     line.push_str(" items");
 }
 
@@ -135,10 +126,10 @@ pub fn schedule_line(bad: BadSchedule) -> Line
 {
     let mut line = Line::new();
     line.push_str("apex_lab: schedule: item ");
-    put_number(&mut line, bad.item);
+    push_long_number(&mut line, bad.item as u64);
     put_line_part(&mut line, bad.line);
     line.push_str(", column ");
-    put_number(&mut line, bad.column);
+    push_long_number(&mut line, bad.column as u64);
     line.push_str(": ");
     put_reason(&mut line, bad.reason);
     line.push_str("\n");
@@ -152,7 +143,7 @@ fn put_bound(line: &mut Line, bound: Bound)
     ensures short { array_string_len line.new ≤ array_string_len line.old + 22 }
 {
     match bound {
-        Bound::Entry(number) => put_number(line, number as usize),
+        Bound::Entry(number) => push_number(line, number),
         Bound::Time(time) => put_time(line, time),
     }
 }
@@ -165,7 +156,7 @@ fn put_time(line: &mut Line, time: u64)
     ensures short { array_string_len line.new ≤ array_string_len line.old + 22 }
 {
     line.push_str("t=");
-    put_number(line, time as usize);
+    push_long_number(line, time);
 }
 
 /// Puts a number of entries.
@@ -179,7 +170,7 @@ fn put_entries(line: &mut Line, entries: usize)
         line.push_str("1 entry");
         return;
     }
-    put_number(line, entries);
+    push_long_number(line, entries as u64);
     line.push_str(" entries");
 }
 
@@ -234,11 +225,11 @@ pub fn excerpt_line(excerpt: Excerpt) -> Line
 {
     let mut line = Line::new();
     line.push_str("apex_lab: entries ");
-    put_number(&mut line, excerpt.first as usize);
+    push_number(&mut line, excerpt.first);
     line.push_str(" to ");
-    put_number(&mut line, excerpt.last as usize);
+    push_number(&mut line, excerpt.last);
     line.push_str(" of ");
-    put_number(&mut line, excerpt.entries);
+    push_long_number(&mut line, excerpt.entries as u64);
     line.push_str("\n");
     line
 }

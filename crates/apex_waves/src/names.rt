@@ -1,6 +1,5 @@
 //! The names and the codes of signals.
-ghost use Rattle.std.specs.Prelude.{◌≡◌, ◌+◌, ◌<◌, ◌≤◌, ◌++◌, decimal, false, length};
-ghost use Rattle.std.specs.Fmt.{digit_glyph};
+ghost use Rattle.std.specs.Prelude.{◌≡◌, ◌+◌, ◌≤◌, ◌++◌, decimal, length};
 ghost use Rattle.apex_types.specs.declared.limits.TheConstants.{MOST_NAME};
 ghost use Rattle.apex_waves.specs.Names.{code_text, dump_name, is_plain, letter, name_byte, number_text, signal_name};
 ghost use Rattle.apex_waves.specs.declared.names.TheConstants.{CODE_ROOM, NAME_ROOM, NUMBER_ROOM};
@@ -12,6 +11,7 @@ use apex_configs::Table;
 use apex_names::{
     blackboard_name, buffer_name, event_flag_name, mutex_name, process_name, semaphore_name,
 };
+use apex_texts::hex_digit;
 use apex_types::MOST_NAME;
 use itoa::Buffer;
 
@@ -34,18 +34,6 @@ pub(crate) fn put_number(sheet: &mut Sheet, number: u64)
     put(sheet, digits.format(number));
 }
 
-/// A hexadecimal digit.
-fn digit(value: u8) -> u8
-    requires { value < 16 }
-    ensures { result ≡ digit_glyph false value }
-{
-    if value < 10 {
-        b'0' + value
-    } else {
-        b'a' - 10 + value
-    }
-}
-
 fn is_plain(byte: u8) -> bool
     ensures { result ≡ is_plain byte }
 {
@@ -60,7 +48,7 @@ fn put_name_byte(sheet: &mut Sheet, byte: u8)
     if is_plain(byte) {
         sheet.put(&[byte]);
     } else {
-        sheet.put(&[b'%', digit(byte / 16), digit(byte % 16)]);
+        sheet.put(&[b'%', hex_digit(byte / 16), hex_digit(byte % 16)]);
     }
 }
 

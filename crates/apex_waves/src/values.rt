@@ -1,5 +1,5 @@
 //! The values of signals, and their changes.
-ghost use Rattle.std.specs.Prelude.{◌≡◌, ◌+◌, ◌*◌, ◌<◌, ◌≤◌, ◌++◌, flat_map, length, map};
+ghost use Rattle.std.specs.Prelude.{◌≡◌, ◌+◌, ◌*◌, ◌≤◌, ◌++◌, flat_map, length, map};
 ghost use Rattle.apex_waves.specs.Levels.{level_of};
 ghost use Rattle.apex_waves.specs.Moments.{Moment, moment_in};
 ghost use Rattle.apex_waves.specs.Values.{change_in, change_text, level_text, value_in, value_text};
@@ -13,7 +13,7 @@ use crate::sheets::{Sheet, put};
 use crate::signals::{MOST_SIGNALS, Signal};
 use apex_configs::Table;
 use apex_dispatch::Kernel;
-use apex_moments::state_word;
+use apex_history::state_word;
 use apex_names::process_name;
 use apex_store::Store;
 

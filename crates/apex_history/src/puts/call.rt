@@ -9,10 +9,11 @@ ghost use Rattle.apex_machine.specs.table.Table.{IsKnown, IsKnownName, literal_t
 ghost use Rattle.apex_calls.specs.CallText.{IsKnownWord, call_text, count_of, mode_text, name_of, named_text, word_text};
 
 use super::message::put_message;
-use super::{CALL_ROOM, Lines, put, put_bytes, put_name, put_number, put_timeout};
+use super::{CALL_ROOM, Lines, put_name, put_number, put_timeout};
 use crate::steps::NextSteps;
 use apex_calls::{Arguments, Kind, Shape, parts_of, row_of};
 use apex_configs::Table;
+use apex_texts::{put, put_bytes};
 use apex_types::{Call, Caller, Id, Name, Named, RequestedMode};
 
 fn mode_name(mode: &RequestedMode) -> &'static str

@@ -1,5 +1,5 @@
 //! The parts of the lines of the status listing.
-ghost use Rattle.std.specs.Prelude.{◌≡◌, ◌+◌, ◌*◌, ◌<◌, ◌≤◌, ◌++◌, length, flat_map, codes, decimal};
+ghost use Rattle.std.specs.Prelude.{◌≡◌, ◌+◌, ◌*◌, ◌≤◌, ◌++◌, length, flat_map};
 ghost use Rattle.apex_history.specs.declared.puts.TheConstants.{ARGUMENT_ROOM, LINES_ROOM};
 ghost use Rattle.arrayvec.specs.ArrayVec.{array_vec_len};
 ghost use Rattle.apex_types.specs.declared.limits.TheConstants.{MOST_MESSAGES, MOST_OWNED, MOST_PROCESSES};
@@ -7,33 +7,11 @@ ghost use Rattle.apex_machine.specs.text.Texts.{id_text, message_text};
 ghost use Rattle.apex_machine.specs.text.Status as status;
 
 use super::message::put_message;
-use super::{Lines, put, put_id, put_long_number, put_name};
+use super::{Lines, put_id, put_long_number, put_name};
 use apex_configs::Table;
-use apex_machine::{Holding, Holdings, Record, Suspender, Wait};
-use apex_types::{Id, Message, Mode, Name, ProcessId, State};
-
-pub(super) fn mode_word(mode: &Mode) -> &'static str
-    ensures value { result.now ≡ status.operating_mode_text mode.now }
-    ensures short { length result.now ≤ 10 }
-{
-    match mode {
-        Mode::Idle => "IDLE",
-        Mode::ColdStart => "COLD_START",
-        Mode::Normal => "NORMAL",
-    }
-}
-
-pub(super) fn state_word(state: &State) -> &'static str
-    ensures value { result.now ≡ status.state_text state.now }
-    ensures short { length result.now ≤ 7 }
-{
-    match state {
-        State::Dormant => "DORMANT",
-        State::Ready => "READY",
-        State::Running => "RUNNING",
-        State::Waiting => "WAITING",
-    }
-}
+use apex_machine::{Holding, Holdings, Suspender, Wait};
+use apex_texts::put;
+use apex_types::{Id, Message, Name, ProcessId};
 
 pub(super) fn suspended_word(suspended: &Option<Suspender>) -> &'static str
     ensures value { result.now ≡ status.suspended_text suspended.now }
@@ -44,14 +22,6 @@ pub(super) fn suspended_word(suspended: &Option<Suspender>) -> &'static str
         Some(Suspender::Other) => "other",
         None => "-",
     }
-}
-
-/// Whether an event flag is up.
-pub(super) fn up_word(up: bool) -> &'static str
-    ensures value { result.now ≡ status.up_text up }
-    ensures short { length result.now ≤ 4 }
-{
-    if up { "UP" } else { "DOWN" }
 }
 
 pub(super) fn put_optional_id(line: &mut Lines, id: &Option<ProcessId>)

@@ -1,5 +1,5 @@
 //! The lines of the status listing, each from its parts.
-ghost use Rattle.std.specs.Prelude.{◌≡◌, ◌+◌, ◌<◌, ◌≤◌, ◌++◌, length, codes};
+ghost use Rattle.std.specs.Prelude.{◌≡◌, ◌+◌, ◌<◌, ◌≤◌, ◌++◌, length};
 ghost use Rattle.apex_history.specs.declared.puts.TheConstants.{LINES_ROOM};
 ghost use Rattle.arrayvec.specs.ArrayVec.{array_vec_len};
 ghost use Rattle.apex_types.specs.declared.limits.TheConstants.{MOST_LINE, MOST_MESSAGES, MOST_PROCESSES};
@@ -7,13 +7,15 @@ ghost use Rattle.apex_machine.specs.text.Status as status;
 ghost use Rattle.apex_history.specs.StatusRows.{row_text, IsPrintableRow};
 
 use super::status::{
-    mode_word, put_head, put_instant, put_messages, put_optional_id, put_optional_message,
-    put_optional_wait, put_owned, put_waiting, state_word, suspended_word, up_word,
+    put_head, put_instant, put_messages, put_optional_id, put_optional_message, put_optional_wait,
+    put_owned, put_waiting, suspended_word,
 };
-use super::{Lines, put, put_long_number, put_number};
+use super::{Lines, put_long_number, put_number};
 use crate::status_rows::StatusRow;
+use crate::texts::{mode_word, state_word, up_word};
 use apex_configs::Table;
 use apex_machine::Record;
+use apex_texts::put;
 use apex_types::{
     BlackboardId, BufferId, CoreId, EventId, Message, Mode, MutexId, ProcessId, SemaphoreId, State,
 };
@@ -34,7 +36,7 @@ fn put_mode(line: &mut Lines, mode: &Mode)
     ensures text { line.new.items ≡ line.old.items ++ status.mode_line mode.now }
 {
     put(line, "mode ");
-    put(line, mode_word(mode));
+    put(line, mode_word(*mode));
     put(line, "\n");
 }
 
@@ -68,7 +70,7 @@ fn put_state(line: &mut Lines, state: &State, fields: &Record)
     ensures short { array_vec_len line.new ≤ array_vec_len line.old + 100 }
 {
     put(line, " state ");
-    put(line, state_word(state));
+    put(line, state_word(*state));
     put(line, " base ");
     put_number(line, u32::from(fields.base));
     put(line, " current ");

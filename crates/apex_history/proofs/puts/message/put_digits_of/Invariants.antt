@@ -6,7 +6,7 @@ use Rattle.apex_machine.specs.text.Texts.{byte_text}
 use Rattle.apex_history.proofs.puts.message.put_digits_of.Given as goal
 
 abbrev pub invariant-loop-byte : goal.invariant-loop-byte
-invariant-loop-byte l = record {
+invariant-loop-byte g l = record {
   text : l.line.items ≡ l.fn.line.items ++ flat_map byte_text (take l.byte-index l.bytes);
   len : array_vec_len l.line ≡ array_vec_len l.fn.line + 2 * l.byte-index;
 }
