@@ -32,7 +32,8 @@ impl<P: Naming> Promise<CoreReport<P>> for WillRun {
     ghost use Rattle.apex_receipts.specs.Receipts.{unspoken};
     ghost use Rattle.apex_cores.specs.Runs.{HasRun};
 
-    ghost kept_by = { λ will report. HasRun (unspoken (Core will.core)) will.turns report.seat report.turns report.full };
+    ghost kept_by = { λ will report.
+        HasRun (unspoken (Core will.core)) will.turns report.seat report.turns report.full };
 }
 
 /// A worker with a new ticker will make `ticks` ticks, if the history has room.
@@ -46,7 +47,8 @@ impl<P: Naming> Promise<TickerReport<P>> for WillTick {
     ghost use Rattle.apex_receipts.specs.Receipts.{unspoken};
     ghost use Rattle.apex_cores.specs.Runs.{HasTicked};
 
-    ghost kept_by = { λ will report. HasTicked (unspoken Ticker) will.ticks report.ticker report.ticks report.full };
+    ghost kept_by = { λ will report.
+        HasTicked (unspoken Ticker) will.ticks report.ticker report.ticks report.full };
 }
 
 /// What is the same for all workers of a run.

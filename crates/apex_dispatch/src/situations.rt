@@ -218,7 +218,8 @@ impl<S: Store> Situation<S> {
     /// One turn of the core, whole. Answers its deed, and leaves its notices alone in `notices`.
     pub fn turn(&mut self, table: &Table, core: CoreId, notices: &mut Notices) -> Deed
         requires { CanGoOn table.now 1 (situation_in self.old) }
-        ensures situation { situation_in self.new ≡ step table.now (situation_in self.old) (Turn core) }
+        ensures situation { situation_in self.new
+            ≡ step table.now (situation_in self.old) (Turn core) }
         ensures answer { Does (deed table.now (situation_in self.old) (Turn core))
             result.caller result.call result.reply
             self.new.roster self.new.objects [] notices.new }
@@ -238,7 +239,8 @@ impl<S: Store> Situation<S> {
     pub fn tick(&mut self, table: &Table, n: u32, notices: &mut Notices) -> Deed
         requires range { (1 ≤ n) × (n ≤ MOST_TICKS) }
         requires can { CanGoOn table.now 1 (situation_in self.old) }
-        ensures situation { situation_in self.new ≡ step table.now (situation_in self.old) (Tick n) }
+        ensures situation { situation_in self.new
+            ≡ step table.now (situation_in self.old) (Tick n) }
         ensures answer { Does (deed table.now (situation_in self.old) (Tick n))
             result.caller result.call result.reply
             self.new.roster self.new.objects [] notices.new }

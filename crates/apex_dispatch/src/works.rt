@@ -110,7 +110,8 @@ impl Works {
     /// The core's work is unbroken so far, and its chosen process is another one.
     fn is_lost<S: Store>(&self, store: &S, core: CoreId) -> bool
         ensures { option_map (watched (S.roster store.now) core) (work_at self.now core)
-            ≡ (if result then option_map broken (work_at self.now core) else work_at self.now core) }
+            ≡ (if result then option_map broken (work_at self.now core)
+            else work_at self.now core) }
     {
         match self.at(core) {
             Some(begun) => begun.unbroken && store.chosen(core) != Some(begun.work.process),
@@ -121,7 +122,9 @@ impl Works {
     /// The same of one core.
     fn watch_core<S: Store>(&mut self, store: &S, core: CoreId)
         ensures { (c : ℕ) → work_at self.new c
-            ≡ (if c == core then option_map (watched (S.roster store.now) core) (work_at self.old c) else work_at self.old c) }
+            ≡ (if c == core
+            then option_map (watched (S.roster store.now) core) (work_at self.old c)
+            else work_at self.old c) }
     {
         if self.is_lost(store, core) {
             self.of_core[usize::from(core.number())] = self.at(core).map(broken);

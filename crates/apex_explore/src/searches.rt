@@ -122,7 +122,8 @@ impl<W: Drop> Search<W> {
 
     /// The states of the level that are left, the next one first, or none if each state is done.
     pub fn turn<S: System<Workspace = W>>(&mut self, system: &S) -> Option<Places>
-        requires searched { let step = step_within (S.choice_count system.now) (S.step system.now) in
+        requires searched { let step = step_within (S.choice_count system.now)
+            (S.step system.now) in
             IsUnderWay step (S.start system.now) self.old }
         ensures searched { let step = step_within (S.choice_count system.now) (S.step system.now) in
             IsUnderWay step (S.start system.now) self.new }
@@ -154,7 +155,8 @@ impl<W: Drop> Search<W> {
     ) -> Result<Option<Stop>, AllocError>
         requires over { IsOver (S.word_count system.now) (S.is_state system.now)
             (S.is_workspace system.now) self.old }
-        requires searched { let step = step_within (S.choice_count system.now) (S.step system.now) in
+        requires searched { let step = step_within (S.choice_count system.now)
+            (S.step system.now) in
             IsUnderWay step (S.start system.now) self.old }
         ensures over { IfOk result (λ _. IsOver (S.word_count system.now) (S.is_state system.now)
             (S.is_workspace system.now) self.new) }
@@ -199,7 +201,8 @@ impl<W: Drop> Search<W> {
     ) -> Result<Option<Stop>, AllocError>
         requires over { IsOver (S.word_count system.now) (S.is_state system.now)
             (S.is_workspace system.now) self.old }
-        requires searched { let step = step_within (S.choice_count system.now) (S.step system.now) in
+        requires searched { let step = step_within (S.choice_count system.now)
+            (S.step system.now) in
             IsUnderWay step (S.start system.now) self.old }
         requires fit { let step = step_within (S.choice_count system.now) (S.step system.now) in
             Fit step (S.is_state system.now) self.old.states self.old.front limit expansions.now }
@@ -232,7 +235,8 @@ impl<W: Drop> Search<W> {
         system: &S,
         stop: Stop,
     ) -> Result<Answer, AllocError>
-        requires searched { let step = step_within (S.choice_count system.now) (S.step system.now) in
+        requires searched { let step = step_within (S.choice_count system.now)
+            (S.step system.now) in
             IsUnderWay step (S.start system.now) self.now }
         requires stop { let step = step_within (S.choice_count system.now) (S.step system.now) in
             Stops step self.now.states self.now.front stop }

@@ -96,7 +96,8 @@ impl<'a> Entries<'a> {
         calls: &'a [Link],
         notices: &'a [Notice],
     ) -> Entries<'a>
-        requires within { AllByRecursion (IsWithin (length calls.now) (length notices.now)) stored.now }
+        requires within { AllByRecursion (IsWithin (length calls.now) (length notices.now))
+            stored.now }
         requires many { length stored.now ≤ MOST_ENTRIES }
         ensures { result ≡ entries_from calls.now notices.now 0 stored.now }
     {

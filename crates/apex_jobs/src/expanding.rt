@@ -45,7 +45,8 @@ pub(crate) fn expand_all<R: Threads + Sync, W: Drop + Send, S: System<Workspace 
     desks: &mut [Desk<W>],
 ) -> Result<Vec<Expansion>, AllocError>
     requires some { 0 < length desks.old }
-    requires desks { AllAre (IsDesk (S.word_count system.now) (S.is_workspace system.now)) desks.old }
+    requires desks { AllAre (IsDesk (S.word_count system.now) (S.is_workspace system.now))
+        desks.old }
     requires ready { AllAre (IsReady (S.is_state system.now)) desks.old }
     ensures expansions { let step = step_within (S.choice_count system.now) (S.step system.now) in
         IfOk result (λ expansions. (reached : Reached) (from limit : ℕ)
@@ -59,7 +60,8 @@ pub(crate) fn expand_all<R: Threads + Sync, W: Drop + Send, S: System<Workspace 
     let expand = |_place: usize, desk: &mut Desk<W>|
         requires { IsDesk (S.word_count system.now) (S.is_workspace system.now) desk.now
             × IsReady (S.is_state system.now) desk.now }
-        ensures { let step = step_within (S.choice_count system.entry.now) (S.step system.entry.now) in
+        ensures { let step = step_within (S.choice_count system.entry.now)
+            (S.step system.entry.now) in
             IsMade step (S.word_count system.entry.now) (S.is_state system.entry.now)
             (S.is_workspace system.entry.now) desk.entry.now.batch desk.exit.now }
     { desk.expand(alloc, system) };

@@ -167,7 +167,8 @@ impl<'r, R: Threads + Sync> Jobs<'r, R> {
             desks.old }
         requires over { IsOver (S.word_count system.now) (S.is_state system.now)
             (S.is_workspace system.now) search.old }
-        requires searched { let step = step_within (S.choice_count system.now) (S.step system.now) in
+        requires searched { let step = step_within (S.choice_count system.now)
+            (S.step system.now) in
             IsUnderWay step (S.start system.now) search.old }
         ensures over { IfOk result (λ _. IsOver (S.word_count system.now) (S.is_state system.now)
             (S.is_workspace system.now) search.new) }
@@ -209,7 +210,8 @@ impl<'r, R: Threads + Sync> Jobs<'r, R> {
             desks.old }
         requires over { IsOver (S.word_count system.now) (S.is_state system.now)
             (S.is_workspace system.now) search.old }
-        requires searched { let step = step_within (S.choice_count system.now) (S.step system.now) in
+        requires searched { let step = step_within (S.choice_count system.now)
+            (S.step system.now) in
             IsUnderWay step (S.start system.now) search.old }
         requires left { AreLeft search.old.front places }
         ensures over { IfOk result (λ _. IsOver (S.word_count system.now) (S.is_state system.now)

@@ -53,7 +53,8 @@ pub(crate) fn lay_out_all<R: Threads + Sync, W: Drop + Send, S: System<Workspace
     requires within { limit ≤ length states.now.states }
     requires width { states.now.width ≡ S.word_count system.now }
     requires states { AllAre (S.is_state system.now) states.now.states }
-    requires desks { AllAre (IsDesk (S.word_count system.now) (S.is_workspace system.now)) desks.old }
+    requires desks { AllAre (IsDesk (S.word_count system.now) (S.is_workspace system.now))
+        desks.old }
     ensures laid { IfOk result (λ _.
         AreLaidOut (S.is_state system.now) states.now from limit desks.new) }
     ensures desks { IfOk result (λ _.

@@ -34,7 +34,8 @@ pub(crate) fn take_and_expand<R: Threads + Sync, W: Drop + Send, S: System<Works
     requires fit { let step = step_within (S.choice_count system.now) (S.step system.now) in
         Fit step (S.is_state system.now) search.old.states search.old.front limit expansions.now }
     requires some { 0 < length desks.old }
-    requires desks { AllAre (IsDesk (S.word_count system.now) (S.is_workspace system.now)) desks.old }
+    requires desks { AllAre (IsDesk (S.word_count system.now) (S.is_workspace system.now))
+        desks.old }
     requires ready { AllAre (IsReady (S.is_state system.now)) desks.old }
     ensures taken { let step = step_within (S.choice_count system.now) (S.step system.now) in
         IfOk result (λ took. IsTaken step (S.start system.now) (S.word_count system.now)

@@ -44,7 +44,8 @@ fn may_not_wait(fields: &Record, mutex: MutexId, timeout: Timeout) -> bool
 /// The process owns as many mutexes as it may, and not this one.
 fn owns_most<S: Store>(store: &S, fields: &Record, mutex: MutexId) -> bool
     ensures value { result ≡ owns_most (S.roster store.now) mutex fields.now }
-    ensures room { result ≡ false → owns mutex fields.now ≡ false → length fields.now.owned < MOST_OWNED }
+    ensures room { result ≡ false → owns mutex fields.now ≡ false
+        → length fields.now.owned < MOST_OWNED }
 {
     !fields.owns(mutex) && fields.owned.len() >= store.most_owned()
 }

@@ -76,7 +76,8 @@ impl<P: Naming> Shared<P> {
     ) -> T
         requires { F.IsAlwaysCallable f }
         ensures { (partition : PartitionState) × (partition.table ≡ P.table) × Headline partition
-            × IfSome seen.entry (λ r. IsAtItsPlace partition.machine.history r.now.entry r.now.place)
+            × IfSome seen.entry (λ r.
+            IsAtItsPlace partition.machine.history r.now.entry r.now.place)
             × FnOnceReturnsAt F.FnOnce f partition result }
     {
         let mut locked = self.lock.lock(rt);

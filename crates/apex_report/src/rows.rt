@@ -80,7 +80,8 @@ fn end_of(job: &Option<Job>) -> Option<u64>
 #[tactic(auto, unfolding(crate::specs::Members::members_in))]
 fn put_process_members(line: &mut Line, form: Form, figures: &ProcessFigures)
     requires { array_vec_len line.old + 400 ≤ LINE_ROOM }
-    ensures text { line.new.items ≡ line.old.items ++ members_in form (process_members figures.now) }
+    ensures text { line.new.items
+        ≡ line.old.items ++ members_in form (process_members figures.now) }
     ensures short { array_vec_len line.new ≤ array_vec_len line.old + 400 }
 {
     let jobs = &figures.jobs;

@@ -232,7 +232,8 @@ impl Question {
     /// The question is about the caller, and about the service of its call.
     fn is_about_call(&self, deed: &Deed) -> bool
         ensures { result
-            ≡ (is_about_caller self.now deed.now.caller && is_of_any_or self.now.service deed.now.call) }
+            ≡ (is_about_caller self.now deed.now.caller
+            && is_of_any_or self.now.service deed.now.call) }
     {
         self.is_about_caller(&deed.caller) && self.is_of_service(&deed.call)
     }
@@ -240,7 +241,8 @@ impl Question {
     /// The entry of the deed has the fact; the store is that of the processes after it.
     fn has<S: Store>(&self, fact: Fact, deed: &Deed, notices: &[Notice], store: &S) -> bool
         ensures { result ≡ has_one self.now
-            (shown deed.now.caller deed.now.call deed.now.reply notices.now (S.roster store.now)) fact }
+            (shown deed.now.caller deed.now.call deed.now.reply notices.now (S.roster store.now))
+            fact }
     {
         match fact {
             Fact::Missed => self.is_missed(notices),

@@ -77,7 +77,8 @@ fn put_all_running(lines: &mut ObjectLines, running: &[Option<ProcessId>])
 #[tactic(auto, using(std::proofs::Common::append_assoc), unfolding(crate::specs::Texts::next_in))]
 pub(crate) fn say_next<S: Store>(lines: &mut ObjectLines, form: Form, kernel: &Kernel<S>)
     requires { array_vec_len lines.old + MOST_OBJECT ≤ OBJECTS_ROOM }
-    ensures { lines.new.items ≡ lines.old.items ++ next_in form kernel.now.table kernel.now.machine }
+    ensures { lines.new.items
+        ≡ lines.old.items ++ next_in form kernel.now.table kernel.now.machine }
 {
     let cores = busy_cores(kernel);
     let instant = kernel.store().next_instant();

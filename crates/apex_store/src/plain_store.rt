@@ -136,7 +136,8 @@ fn reset(fields: Record) -> Record
 
 /// The current priority of this record stays with this base priority and these mutexes.
 pub fn stays_level(fields: &Record, base: u8, owned: &Holdings) -> bool
-    ensures { result ≡ stamps.is_level (record fields.now { base = base; owned = owned.now }) fields.now }
+    ensures { result
+        ≡ stamps.is_level (record fields.now { base = base; owned = owned.now }) fields.now }
 {
     owned.raised(base) == fields.current_priority()
 }

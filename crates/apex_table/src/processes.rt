@@ -68,7 +68,8 @@ fn texts<'a>(alloc: Global, at: Place, items: &'a [Value]) -> Result<Vec<&'a str
 
 /// Refuses a script without a step that is to begin anew.
 fn some_step(subject: Subject, loops: bool, items: &[Value]) -> Result<(), TableFault>
-    ensures { Gives (λ _. map view items.now) result (some_step subject loops (map view items.now)) }
+    ensures { Gives (λ _. map view items.now) result
+        (some_step subject loops (map view items.now)) }
 {
     if loops && items.is_empty() {
         return Err(TableFault::OutOfRange(subject));

@@ -20,7 +20,8 @@ pub(crate) enum Chosen {
 
 /// The processes of these names or numbers.
 fn processes_named(alloc: Global, table: &Table, names: &[Name]) -> Result<Chosen, AllocError>
-    ensures { IfOk result (λ chosen. chosen_said chosen ≡ some_of (places_named table.now names.now)) }
+    ensures { IfOk result (λ chosen. chosen_said chosen
+        ≡ some_of (places_named table.now names.now)) }
 {
     let mut processes = Vec::new(alloc);
     for name in names {

@@ -56,7 +56,8 @@ fn put_head<S: Store>(sheet: &mut Sheet, kernel: &Kernel<S>, signals: &[Signal])
     requires signals { signals.now ≡ signals_of kernel.now.table }
     requires few { length signals.now ≤ MOST_SIGNALS }
     requires empty { sheet.old ≡ [] }
-    ensures text { sheet.new ≡ head_text kernel.now.table (moment_in kernel.now.table kernel.now.machine) }
+    ensures text { sheet.new
+        ≡ head_text kernel.now.table (moment_in kernel.now.table kernel.now.machine) }
     ensures course { IsAt kernel.now.table kernel.now.machine result }
 {
     kernel.holds();
@@ -88,7 +89,8 @@ fn put_event<S: Store>(
     ensures done { kernel.new ≡ kernel_in kernel.old.table
         (accept kernel.old.table kernel.old.machine event) kernel.new.store }
     ensures course { IsAt kernel.old.table kernel.new.machine course.new }
-    ensures grows { Grows kernel.old.table kernel.old.machine kernel.new.machine sheet.old sheet.new }
+    ensures grows { Grows kernel.old.table kernel.old.machine kernel.new.machine
+        sheet.old sheet.new }
 {
     kernel.holds();
     let Ok(()) = kernel.accept(event) else {
