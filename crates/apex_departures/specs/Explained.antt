@@ -1,7 +1,6 @@
 -- The verdict on a text in which comments may be left out, and its explanation.
 use Rattle.std.specs.Prelude.{◌≡◌, ℕ, ◌-◌, Bool, is_some, if◌then◌else◌, List, ◌++◌, Option, None, Some}
 use Rattle.apex_json.specs.declared.Form.{Form}
-use Rattle.apex_json.specs.declared.Form.TheVariants as forms
 use Rattle.apex_machine.specs.table.Table.{Table}
 use Rattle.apex_machine.specs.Machine.{Machine, events_of}
 use Rattle.apex_history.specs.declared.reading.ReadFault.{ReadFault}
@@ -10,11 +9,10 @@ use Rattle.apex_check.specs.declared.verdicts.Verdict.{Verdict}
 use Rattle.apex_check.specs.declared.verdicts.Verdict.TheVariants.{Legal, DepartsAt}
 use Rattle.apex_check.specs.declared.verdicts.CheckFault.{CheckFault}
 use Rattle.apex_check.specs.declared.verdicts.CheckFault.TheVariants.{Memory, BadLine, TooLong, Read}
-use Rattle.apex_check.specs.Verdicts.{HasFollowed, IsAtFault, verdict_text}
+use Rattle.apex_check.specs.Verdicts.{HasFollowed, IsAtFault}
 use Rattle.apex_departures.specs.Terms.{Event}
 use Rattle.apex_departures.specs.Lines.{followed_text, given_parts, number_given, part_given}
-use Rattle.apex_departures.specs.Objects.{departure_object, legal_object, reason_end}
-use Rattle.apex_departures.specs.Pages.{departure_text, reason_line}
+use Rattle.apex_departures.specs.Pages.{departure_in, legal_in, reason_in}
 use Rattle.apex_departures.specs.Why.{HasEvent, IsReasonAt}
 
 -- a verdict by the number of the line as it was given
@@ -41,28 +39,11 @@ fault_of_reading read_fault.Read = Read
 
 -- the explanation of a verdict without the reason of the machine's entry, by the parts of the
 -- history as it was given
-abbrev pub lines_text : Bool → List (List ℕ) → Table → Verdict → List ℕ
-lines_text comments given table (Legal n) = verdict_text table (Legal n)
-lines_text comments given table (DepartsAt n expected) =
-    departure_text table (number_given comments given n) (part_given comments given (n - 1))
-    expected
-
--- the same as an object of JSON
-abbrev pub lines_object : Bool → List (List ℕ) → Table → Verdict → List ℕ
-lines_object comments given table (Legal n) = legal_object n
-lines_object comments given table (DepartsAt n expected) =
-    departure_object table (number_given comments given n) (part_given comments given (n - 1))
-    expected
-
--- the same in this form
 abbrev pub lines_in : Form → Bool → List (List ℕ) → Table → Verdict → List ℕ
-lines_in forms.Text comments given table verdict = lines_text comments given table verdict
-lines_in forms.Json comments given table verdict = lines_object comments given table verdict
-
--- the reason in this form, which stands last
-abbrev pub reason_in : Form → List ℕ → List ℕ
-reason_in forms.Text reason = reason_line reason
-reason_in forms.Json reason = reason_end reason
+lines_in form comments given table (Legal n) = legal_in form n
+lines_in form comments given table (DepartsAt n expected) =
+    departure_in form table (number_given comments given n) (part_given comments given (n - 1))
+    expected
 
 -- these bytes, and then the reason of the event of this number
 abbrev pub AppendsReason : Form → Table → List Event → ℕ → List ℕ → List ℕ → Type 0

@@ -3,6 +3,5 @@ pub mod Lines
 pub mod Shown
 pub mod Why
 pub mod Pages
-pub mod Objects
 pub mod Explained
 pub mod Ends

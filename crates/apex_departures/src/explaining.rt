@@ -6,12 +6,11 @@ ghost use Rattle.apex_history.specs.Counted.{inner_of, failures_of, AppendsBegin
 ghost use Rattle.apex_history.specs.Ports.{ports};
 ghost use Rattle.apex_check.specs.Steps.{IsTellable};
 ghost use Rattle.apex_departures.specs.Ends.{Ends};
-ghost use Rattle.apex_departures.specs.Explained.{AppendsReason, EndsPage, HasEventIfAny, IsExplained, IsPage, IsRefused, ShowsEvent, fault_given, fault_in_memory, fault_of_reading, lines_in, lines_object, lines_text, reason_in, shown_number, verdict_given};
+ghost use Rattle.apex_departures.specs.Explained.{AppendsReason, EndsPage, HasEventIfAny, IsExplained, IsPage, IsRefused, ShowsEvent, fault_given, fault_in_memory, fault_of_reading, lines_in, shown_number, verdict_given};
 ghost use Rattle.apex_departures.specs.Lines.{line_parts, number_given};
 ghost use Rattle.apex_departures.specs.Why.{HasEvent};
 
 use crate::lines::{given_line, put_followed};
-use crate::objects::{put_departure_object, put_legal_object, put_reason_end};
 use crate::pages::{put_departure, put_legal, put_reason};
 use crate::whys::why;
 use apex_check::{CheckFault, Followed, Verdict, follow};
@@ -73,51 +72,8 @@ fn fault_of_reading(fault: ReadFault) -> CheckFault
     }
 }
 
-/// Puts an explanation as an object without the reason of the machine's entry.
-fn put_lines_object(
-    alloc: Global,
-    page: &mut Vec<u8>,
-    table: &Table,
-    comments: bool,
-    history: &[u8],
-    verdict: &Verdict,
-) -> Result<(), AllocError>
-    requires { IsTellable table.now verdict.now }
-    ensures { OnOk result (page.new.items ≡ page.old.items
-        ++ lines_object comments (line_parts history.now) table.now verdict.now) }
-{
-    match verdict {
-        Verdict::Legal(count) => put_legal_object(page, *count),
-        Verdict::DepartsAt(number, expected) => {
-            let line = given_line(comments, history, *number);
-            put_departure_object(alloc, page, table, &line, expected)
-        }
-    }
-}
-
-/// Puts an explanation as lines without the reason of the machine's entry.
+/// Puts an explanation without the reason of the machine's entry.
 fn put_lines(
-    page: &mut Vec<u8>,
-    table: &Table,
-    comments: bool,
-    history: &[u8],
-    verdict: &Verdict,
-) -> Result<(), AllocError>
-    requires { IsTellable table.now verdict.now }
-    ensures { OnOk result (page.new.items ≡ page.old.items
-        ++ lines_text comments (line_parts history.now) table.now verdict.now) }
-{
-    match verdict {
-        Verdict::Legal(count) => put_legal(page, table, *count),
-        Verdict::DepartsAt(number, expected) => {
-            let line = given_line(comments, history, *number);
-            put_departure(page, table, &line, expected)
-        }
-    }
-}
-
-/// Puts an explanation in this form without the reason of the machine's entry.
-fn put_lines_in(
     alloc: Global,
     form: Form,
     page: &mut Vec<u8>,
@@ -130,19 +86,12 @@ fn put_lines_in(
     ensures { OnOk result (page.new.items ≡ page.old.items
         ++ lines_in form comments (line_parts history.now) table.now verdict.now) }
 {
-    match form {
-        Form::Text => put_lines(page, table, comments, history, verdict),
-        Form::Json => put_lines_object(alloc, page, table, comments, history, verdict),
-    }
-}
-
-/// Puts a reason in this form.
-fn put_reason_in(form: Form, page: &mut Vec<u8>, reason: &[u8]) -> Result<(), AllocError>
-    ensures { OnOk result (page.new.items ≡ page.old.items ++ reason_in form reason.now) }
-{
-    match form {
-        Form::Text => put_reason(page, reason),
-        Form::Json => put_reason_end(page, reason),
+    match verdict {
+        Verdict::Legal(count) => put_legal(form, page, *count),
+        Verdict::DepartsAt(number, expected) => {
+            let line = given_line(comments, history, *number);
+            put_departure(alloc, form, page, table, &line, expected)
+        }
     }
 }
 
@@ -160,7 +109,7 @@ fn put_why<S: Store>(
         page.old.items page.new.items) }
 {
     match why(alloc, kernel, number) {
-        Ok(Some(reason)) => put_reason_in(form, page, reason.as_slice()),
+        Ok(Some(reason)) => put_reason(form, page, reason.as_slice()),
         Ok(None) => Ok(()),
         Err(error) => Err(error),
     }
@@ -216,7 +165,7 @@ fn put_page<S: Store>(
     ensures { OnOk result (IsPage form comments (line_parts history.now) kernel.table
         (events_of kernel.machine.history) verdict.now page.new.items) }
 {
-    match put_lines_in(
+    match put_lines(
         alloc,
         form,
         page,

@@ -4,7 +4,6 @@
 
 mod explaining;
 mod lines;
-mod objects;
 mod pages;
 mod putting;
 mod shown;

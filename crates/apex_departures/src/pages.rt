@@ -1,40 +1,78 @@
-//! The text that explains a verdict.
-ghost use Rattle.std.specs.Prelude.{◌≡◌, ◌++◌, OnOk, IfSome, None, Some};
+//! The page that explains a verdict: lines of text, or an object of JSON.
+ghost use Rattle.std.specs.Prelude.{◌≡◌, ◌++◌, OnOk, IfSome, Some};
 ghost use Rattle.apex_calls.specs.Lines.{IsPrintable};
-ghost use Rattle.apex_check.specs.declared.verdicts.Verdict.TheVariants.{Legal};
-ghost use Rattle.apex_check.specs.Verdicts.{verdict_text};
-ghost use Rattle.apex_departures.specs.Pages.{column_text, compared_text, departure_text, head_text, reason_line, unended};
+ghost use Rattle.apex_objects.specs.Parts.{string_text};
+ghost use Rattle.apex_departures.specs.Pages.{column_in, compared_in, departure_in, expected_in};
+ghost use Rattle.apex_departures.specs.Pages.{head_in, legal_in, line_in, nothing_in, reason_in};
+ghost use Rattle.apex_departures.specs.Pages.{unended};
+ghost use Rattle.apex_departures.specs.Shown.{shown};
 
 use crate::lines::GivenLine;
 use crate::putting::{column, put, put_between, put_number_between, put_shown};
 use apex_configs::Table;
 use apex_history::{Lines, NextSteps, put_line};
+use apex_json::{Form, pick, put_json};
 use apex_types::Entry;
-use std::alloc::AllocError;
+use std::alloc::{AllocError, Global};
 
-/// Puts the verdict on a history whose lines are all the machine's.
-pub(crate) fn put_legal(page: &mut Vec<u8>, table: &Table, count: u32) -> Result<(), AllocError>
-    ensures { OnOk result (page.new.items
-        ≡ page.old.items ++ verdict_text table.now (Legal count)) }
+/// Puts bytes as a string of JSON.
+fn put_string(page: &mut Vec<u8>, bytes: &[u8]) -> Result<(), AllocError>
+    ensures { OnOk result (page.new.items ≡ page.old.items ++ string_text bytes.now) }
 {
-    put_number_between(page, b"legal ", count as usize, b"\n")
+    put(page, "\"")?;
+    put_json(page, bytes)?;
+    put(page, "\"")
 }
 
-/// Puts the number of the line that departs, and the line.
-fn put_head(page: &mut Vec<u8>, line: &GivenLine<'_>) -> Result<(), AllocError>
-    ensures { OnOk result (page.new.items
-        ≡ page.old.items ++ head_text line.now.number line.now.bytes.now) }
+/// Puts a line as it is shown, as a string of JSON.
+fn put_line_string(alloc: Global, page: &mut Vec<u8>, line: &[u8]) -> Result<(), AllocError>
+    ensures { OnOk result (page.new.items ≡ page.old.items ++ string_text (shown line.now)) }
 {
-    put_number_between(page, b"departs at ", line.number as usize, b"\ngiven: ")?;
-    put_shown(page, line.bytes)
+    let mut text = Vec::new(alloc);
+    put_shown(&mut text, line)?;
+    put_string(page, text.as_slice())
+}
+
+/// Puts a line as it is shown, in JSON as a string.
+fn put_line_in(alloc: Global, form: Form, page: &mut Vec<u8>, line: &[u8]) -> Result<(), AllocError>
+    ensures { OnOk result (page.new.items ≡ page.old.items ++ line_in form line.now) }
+{
+    match form {
+        Form::Text => put_shown(page, line),
+        Form::Json => put_line_string(alloc, page, line),
+    }
+}
+
+/// Puts the verdict on a history whose lines are all the machine's.
+pub(crate) fn put_legal(form: Form, page: &mut Vec<u8>, count: u32) -> Result<(), AllocError>
+    ensures { OnOk result (page.new.items ≡ page.old.items ++ legal_in form count) }
+{
+    match form {
+        Form::Text => put_number_between(page, "legal ", count as usize, "\n"),
+        Form::Json => put_number_between(page, "{\"legal\":", count as usize, "}\n"),
+    }
+}
+
+/// Puts the number of the line that departs.
+fn put_head(form: Form, page: &mut Vec<u8>, number: u32) -> Result<(), AllocError>
+    ensures { OnOk result (page.new.items ≡ page.old.items ++ head_in form number) }
+{
+    let number = number as usize;
+    match form {
+        Form::Text => put_number_between(page, "departs at ", number, "\ngiven: "),
+        Form::Json => put_number_between(page, "{\"departs\":", number, ",\"given\":"),
+    }
 }
 
 /// Puts the column in which the lines differ.
-fn put_column(page: &mut Vec<u8>, given: &[u8], line: &[u8]) -> Result<(), AllocError>
-    ensures { OnOk result (page.new.items
-        ≡ page.old.items ++ column_text given.now line.now) }
+fn put_column(form: Form, page: &mut Vec<u8>, given: &[u8], line: &[u8]) -> Result<(), AllocError>
+    ensures { OnOk result (page.new.items ≡ page.old.items ++ column_in form given.now line.now) }
 {
-    put_number_between(page, b"\ncolumn: ", column(given, line), b"\n")
+    let column = column(given, line);
+    match form {
+        Form::Text => put_number_between(page, "\ncolumn: ", column, "\n"),
+        Form::Json => put_number_between(page, ",\"column\":", column, ",\"reason\":"),
+    }
 }
 
 /// A line without its line feed.
@@ -44,8 +82,25 @@ pub(crate) fn unended(line: &[u8]) -> &[u8]
     &line[..line.len().saturating_sub(1)]
 }
 
-/// Puts the line of the entry that the machine expects.
+/// Puts the line that the machine expects, and the column.
 fn put_expected(
+    alloc: Global,
+    form: Form,
+    page: &mut Vec<u8>,
+    given: &[u8],
+    line: &[u8],
+) -> Result<(), AllocError>
+    ensures { OnOk result (page.new.items ≡ page.old.items ++ expected_in form given.now line.now) }
+{
+    put(page, pick(form, "\nexpected: ", ",\"expected\":"))?;
+    put_line_in(alloc, form, page, line)?;
+    put_column(form, page, given, line)
+}
+
+/// Puts the line of the entry that the machine expects, and the column.
+fn put_entry(
+    alloc: Global,
+    form: Form,
     page: &mut Vec<u8>,
     table: &Table,
     given: &[u8],
@@ -53,27 +108,33 @@ fn put_expected(
 ) -> Result<(), AllocError>
     requires { IsPrintable table.now entry.now }
     ensures { OnOk result (page.new.items
-        ≡ page.old.items ++ compared_text table.now given.now (Some entry.entry.now)) }
+        ≡ page.old.items ++ compared_in form table.now given.now (Some entry.entry.now)) }
 {
     let mut lines = Lines::new();
     put_line(&mut lines, table, &mut NextSteps::new(), &entry.lent());
-    let line = unended(lines.as_slice());
-    put(page, b"\nexpected: ")?;
-    put_shown(page, line)?;
-    put_column(page, given, line)
+    put_expected(alloc, form, page, given, unended(lines.as_slice()))
 }
 
 /// Puts that the machine expects no line.
-fn put_nothing(page: &mut Vec<u8>, table: &Table, given: &[u8]) -> Result<(), AllocError>
-    ensures { OnOk result (page.new.items
-        ≡ page.old.items ++ compared_text table.now given.now None) }
+fn put_nothing(form: Form, page: &mut Vec<u8>, given: &[u8]) -> Result<(), AllocError>
+    ensures { OnOk result (page.new.items ≡ page.old.items ++ nothing_in form given.now) }
 {
-    put(page, b"\nexpected: nothing")?;
-    put_column(page, given, &[])
+    let column = column(given, &[]);
+    match form {
+        Form::Text => put_number_between(page, "\nexpected: nothing\ncolumn: ", column, "\n"),
+        Form::Json => put_number_between(
+            page,
+            ",\"expected\":null,\"column\":",
+            column,
+            ",\"reason\":null}\n",
+        ),
+    }
 }
 
-/// Puts the line that the machine expects, and the column.
+/// Puts the line that the machine expects, if it expects one, and the column.
 fn put_compared(
+    alloc: Global,
+    form: Form,
     page: &mut Vec<u8>,
     table: &Table,
     given: &[u8],
@@ -81,16 +142,19 @@ fn put_compared(
 ) -> Result<(), AllocError>
     requires { IfSome expected.now (IsPrintable table.now) }
     ensures { OnOk result (page.new.items
-        ≡ page.old.items ++ compared_text table.now given.now expected.now) }
+        ≡ page.old.items ++ compared_in form table.now given.now expected.now) }
 {
     match expected {
-        Some(entry) => put_expected(page, table, given, entry),
-        None => put_nothing(page, table, given),
+        Some(entry) => put_entry(alloc, form, page, table, given, entry),
+        None => put_nothing(form, page, given),
     }
 }
 
-/// Puts a departure without the reason of the machine's entry.
+/// Puts a departure up to the reason of the machine's entry.
+#[tactic(auto, using(std::proofs::Common::append_assoc))]
 pub(crate) fn put_departure(
+    alloc: Global,
+    form: Form,
     page: &mut Vec<u8>,
     table: &Table,
     line: &GivenLine<'_>,
@@ -98,15 +162,22 @@ pub(crate) fn put_departure(
 ) -> Result<(), AllocError>
     requires { IfSome expected.now (IsPrintable table.now) }
     ensures { OnOk result (page.new.items ≡ page.old.items
-        ++ departure_text table.now line.now.number line.now.bytes.now expected.now) }
+        ++ departure_in form table.now line.now.number line.now.bytes.now expected.now) }
 {
-    put_head(page, line)?;
-    put_compared(page, table, line.bytes, expected)
+    put_head(form, page, line.number)?;
+    put_line_in(alloc, form, page, line.bytes)?;
+    put_compared(alloc, form, page, table, line.bytes, expected)
 }
 
-/// Puts the line of a reason.
-pub(crate) fn put_reason(page: &mut Vec<u8>, reason: &[u8]) -> Result<(), AllocError>
-    ensures { OnOk result (page.new.items ≡ page.old.items ++ reason_line reason.now) }
+/// Puts the reason, and in JSON the end of the object.
+pub(crate) fn put_reason(form: Form, page: &mut Vec<u8>, reason: &[u8]) -> Result<(), AllocError>
+    ensures { OnOk result (page.new.items ≡ page.old.items ++ reason_in form reason.now) }
 {
-    put_between(page, b"reason: ", reason, b"\n")
+    match form {
+        Form::Text => put_between(page, "reason: ", reason, "\n"),
+        Form::Json => {
+            put_string(page, reason)?;
+            put(page, "}\n")
+        }
+    }
 }

@@ -7,35 +7,35 @@ use apex_texts::hex_digit;
 use itoa::Buffer;
 use std::alloc::AllocError;
 
-/// Puts bytes as they are.
-pub(crate) fn put(text: &mut Vec<u8>, bytes: &[u8]) -> Result<(), AllocError>
-    ensures { OnOk result (text.new.items ≡ text.old.items ++ bytes.now) }
+/// Puts words as they are.
+pub(crate) fn put(text: &mut Vec<u8>, words: &str) -> Result<(), AllocError>
+    ensures { OnOk result (text.new.items ≡ text.old.items ++ words.now) }
 {
-    text.extend_from_slice(bytes)
+    text.extend_from_slice(words.as_bytes())
 }
 
-/// Puts bytes between two others.
+/// Puts bytes between words.
 #[tactic(auto, using(std::proofs::Common::append_assoc))]
 pub(crate) fn put_between(
     text: &mut Vec<u8>,
-    before: &[u8],
+    before: &str,
     bytes: &[u8],
-    behind: &[u8],
+    behind: &str,
 ) -> Result<(), AllocError>
     ensures { OnOk result (text.new.items
         ≡ text.old.items ++ (before.now ++ (bytes.now ++ behind.now))) }
 {
     put(text, before)?;
-    put(text, bytes)?;
+    text.extend_from_slice(bytes)?;
     put(text, behind)
 }
 
-/// Puts a number, by its digits, between bytes.
+/// Puts a number, by its digits, between words.
 pub(crate) fn put_number_between(
     text: &mut Vec<u8>,
-    before: &[u8],
+    before: &str,
     number: usize,
-    behind: &[u8],
+    behind: &str,
 ) -> Result<(), AllocError>
     ensures { OnOk result (text.new.items
         ≡ text.old.items ++ (before.now ++ (decimal number ++ behind.now))) }

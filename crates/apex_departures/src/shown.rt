@@ -45,7 +45,7 @@ fn put_expected(
 {
     match expected {
         Some(entry) => put_entry(text, table, entry),
-        None => put(text, b"nothing"),
+        None => put(text, "nothing"),
     }
 }
 

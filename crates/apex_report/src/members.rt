@@ -8,20 +8,9 @@ ghost use Rattle.apex_report.specs.declared.members.TheConstants.{MOST_STRING};
 ghost use Rattle.apex_report.specs.Members.{key_in, name_in, room_of, text_of, value_in};
 
 use crate::lines::Line;
-use apex_json::{Form, MOST_ESCAPE, add_json};
+use apex_json::{Form, MOST_ESCAPE, add_json, pick};
 use apex_texts::{put, put_bytes, put_long_number};
 use apex_types::MOST_NAME;
-
-/// The one of the two that belongs to the form.
-pub(crate) fn pick(form: Form, text: &'static str, json: &'static str) -> &'static str
-    ensures text { result.now ≡ in_form form text.now json.now }
-    ensures short { length result.now ≤ length text.now + length json.now }
-{
-    match form {
-        Form::Text => text,
-        Form::Json => json,
-    }
-}
 
 /// A member of a row: its key, and a number, or none.
 #[derive(Clone, Copy)]

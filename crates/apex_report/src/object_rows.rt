@@ -10,12 +10,12 @@ ghost use Rattle.apex_report.specs.declared.members.TheConstants.{MOST_STRING};
 ghost use Rattle.apex_report.specs.declared.rows.TheConstants.{FRONT};
 
 use crate::lines::Line;
-use crate::members::{Member, pick, put_key, put_members, put_name};
+use crate::members::{Member, put_key, put_members, put_name};
 use crate::objects::{Level, ObjectFigures};
 use crate::ownerships::Ownership;
 use crate::rows::Figures;
 use apex_configs::Table;
-use apex_json::Form;
+use apex_json::{Form, pick};
 use apex_machine::Queue;
 use apex_names::{object_name, process_name};
 use apex_texts::put;

@@ -9,12 +9,11 @@ ghost use Rattle.apex_report.specs.Texts.{lines_of, report_text, IsOfTable, IsRe
 ghost use Rattle.apex_report.specs.declared.rows.TheConstants.{FRONT};
 
 use crate::lines::Line;
-use crate::members::pick;
 use crate::reports::Report;
 use crate::rows::Figures;
 use apex_configs::Table;
 use apex_history::{Counted, Sink};
-use apex_json::Form;
+use apex_json::{Form, pick};
 use apex_texts::{put, put_number};
 use std::io::{Result, Write};
 

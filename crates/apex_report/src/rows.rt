@@ -13,13 +13,13 @@ ghost use Rattle.apex_report.specs.declared.rows.TheConstants.{FRONT};
 use crate::cores::CoreFigures;
 use crate::jobs::Job;
 use crate::lines::Line;
-use crate::members::{Member, pick, put_members, put_name};
+use crate::members::{Member, put_members, put_name};
 use crate::processes::ProcessFigures;
 use crate::refusals::Refusals;
 use crate::services::ServiceFigures;
 use apex_calls::row_of;
 use apex_configs::Table;
-use apex_json::Form;
+use apex_json::{Form, pick};
 use apex_names::process_name;
 use apex_texts::{put, put_number};
 

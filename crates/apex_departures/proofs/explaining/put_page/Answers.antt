@@ -16,6 +16,6 @@ returns-in-Ok g c =
     let events = events_of c.args.kernel.machine.history in
     let lines = lines_in c.args.form c.args.comments (line_parts c.args.history.now) table c.args.verdict.now in
     let page = c.put_reason_of.new.page.items in
-    let put : c.put_lines_in.new.page.items ≡ lines = (rw c.table.ensures at c.in-Ok.ensures) ∙ ap (λ (l : List ℕ). l ++ lines) c.requires.empty in
+    let put : c.put_lines.new.page.items ≡ lines = (rw c.table.ensures at c.in-Ok.ensures) ∙ ap (λ (l : List ℕ). l ++ lines) c.requires.empty in
     subst (λ (n : Option ℕ). OnOk c.put_reason_of.result (EndsPage c.args.form table events n lines page)) c.shown_number.ensures
     (subst (λ (front : List ℕ). OnOk c.put_reason_of.result (EndsPage c.args.form table events c.shown_number.result front page)) put c.put_reason_of.ensures)

@@ -3,7 +3,7 @@ use Rattle.std.proofs.Common.{codes}
 use Rattle.apex_json.specs.Strings.{json_text}
 use Rattle.apex_objects.specs.Parts.{string_text}
 use Rattle.apex_departures.proofs.ThreeParts.{three_parts}
-use Rattle.apex_departures.proofs.objects.put_string.Goals as goal
+use Rattle.apex_departures.proofs.pages.put_string.Goals as goal
 
 pub returns : goal.returns
 unfolding string_text
