@@ -1,7 +1,6 @@
 //! The members of a report's rows, added to a line in a form.
 ghost use Rattle.std.specs.Prelude.{◌≡◌, ◌+◌, ◌≤◌, ◌++◌, flat_map, length, sum_by};
 ghost use Rattle.arrayvec.specs.ArrayVec.{array_vec_len};
-ghost use Rattle.apex_json.specs.Forms.{in_form};
 ghost use Rattle.apex_types.specs.declared.limits.TheConstants.{MOST_NAME};
 ghost use Rattle.apex_report.specs.declared.lines.TheConstants.{LINE_ROOM};
 ghost use Rattle.apex_report.specs.declared.members.TheConstants.{MOST_STRING};

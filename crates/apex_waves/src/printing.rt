@@ -1,12 +1,11 @@
 //! The printing of a dump, entry by entry, while the partition runs.
-ghost use Rattle.std.specs.Prelude.{◌≡◌, [], ◌++◌, ◌+◌, ◌*◌, ◌<◌, ◌≤◌, All, IfErr, OnErr, OnOk, length};
+ghost use Rattle.std.specs.Prelude.{◌≡◌, [], ◌++◌, ◌+◌, ◌≤◌, All, IfErr, OnErr, OnOk, length};
 ghost use Rattle.std.specs.Io.KnownBytes.{Appends};
 ghost use Rattle.apex_machine.specs.Events.{IsWithin};
 ghost use Rattle.apex_machine.specs.Machine.{accept, opening, run};
 ghost use Rattle.apex_types.specs.Limits.{latest};
 ghost use Rattle.apex_dispatch.specs.Kernel.{kernel_in};
 ghost use Rattle.apex_history.specs.Counted.{inner_of, failures_of, CountsFailure, AppendsBeginning, IsOfWrite};
-ghost use Rattle.apex_moments.specs.Instants.{instant_after, next_instant};
 ghost use Rattle.apex_waves.specs.Instants.{units};
 ghost use Rattle.apex_waves.specs.Dumps.{dump_text, end_text, time_line};
 ghost use Rattle.apex_waves.specs.Heads.{head_text};
