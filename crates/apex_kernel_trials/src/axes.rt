@@ -19,7 +19,7 @@ use std::mem::drop;
 use std::process::Abort;
 
 /// The init steps create the process, bind it to its core, start it and begin NORMAL: entries 1 to 4.
-const TABLE: &str = r#"
+pub(crate) const TABLE: &str = r#"
 cores = 1
 
 [[process]]

@@ -2,22 +2,11 @@
 ghost use Rattle.std.specs.Prelude.{All};
 ghost use Rattle.apex_machine.specs.Events.{IsWithin};
 
-use crate::axes::{has_parts, picture_of};
+use crate::axes::{TABLE, has_parts, picture_of};
 use apex_scales::Axis;
 use apex_types::{CoreId, Event};
 use std::alloc::Global;
 use std::process::Abort;
-
-/// The init steps create the process, bind it to its core, start it and begin NORMAL: entries 1 to 4.
-const TABLE: &str = r#"
-cores = 1
-
-[[process]]
-name = "P"
-priority = 10
-start = true
-script = ["TIMED_WAIT 22", "GET_MY_ID"]
-"#;
 
 /// Entry 5 is the wait. While P waits, entries 6 and 9 are idle turns, and 7 and 8 ticks at which nothing
 /// happens; the tick of entry 10 ends the wait at t=22, and entry 11 is the call behind it.
