@@ -6,7 +6,10 @@ ghost use Rattle.apex_history.specs.Counted.{inner_of, failures_of, AppendsBegin
 ghost use Rattle.apex_history.specs.Ports.{ports};
 ghost use Rattle.apex_check.specs.Steps.{IsTellable};
 ghost use Rattle.apex_departures.specs.Ends.{Ends};
-ghost use Rattle.apex_departures.specs.Explained.{AppendsReason, EndsPage, HasEventIfAny, IsExplained, IsPage, IsRefused, ShowsEvent, fault_given, fault_in_memory, fault_of_reading, lines_in, shown_number, verdict_given};
+ghost use Rattle.apex_departures.specs.Explained.{AppendsReason, EndsPage, HasEventIfAny};
+ghost use Rattle.apex_departures.specs.Explained.{IsExplained, IsPage, IsRefused, ShowsEvent};
+ghost use Rattle.apex_departures.specs.Explained.{fault_given, fault_in_memory, fault_of_reading};
+ghost use Rattle.apex_departures.specs.Explained.{lines_in, shown_number, verdict_given};
 ghost use Rattle.apex_departures.specs.Lines.{line_parts, number_given};
 ghost use Rattle.apex_departures.specs.Why.{HasEvent};
 

@@ -6,7 +6,9 @@ ghost use Rattle.arrayvec.specs.ArrayVec.{array_vec_len};
 ghost use Rattle.apex_machine.specs.table.Table.{IsKnown};
 ghost use Rattle.apex_machine.specs.text.Texts.{id_text};
 ghost use Rattle.apex_calls.specs.CallText.{timeout_text};
-ghost use Rattle.apex_calls.specs.Lines.{code_text, no_call_text, asked_text, who_text, caller_text, reply_text, noticed_text, line_of, IsPrintable};
+ghost use Rattle.apex_calls.specs.Lines.{code_text, no_call_text, asked_text, who_text};
+ghost use Rattle.apex_calls.specs.Lines.{caller_text, reply_text, noticed_text, line_of};
+ghost use Rattle.apex_calls.specs.Lines.{IsPrintable};
 
 mod call;
 mod message;

@@ -1,6 +1,6 @@
 //! What a partition's history says at each entry: the state of each process after it, the process
 //! that each core runs, the counts of the objects and the owners of the mutexes, and the instant of
-//! each moment. The words for them are here too.
+//! each moment. The words for waits and notices are here too.
 #![tactic(auto)]
 
 mod counts;

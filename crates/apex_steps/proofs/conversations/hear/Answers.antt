@@ -2,6 +2,8 @@ use Rattle.std.specs.Io.KnownBytes.{prepend_known}
 use Rattle.apex_history.specs.Counted.{inner_of}
 use Rattle.apex_incoming.specs.Ahead.{Comes, IsFirstLine}
 use Rattle.apex_incoming.specs.declared.Next.TheVariants.{Rest}
+use Rattle.std.proofs.Common.{arith}
+use Rattle.std.proofs.lemmas.Grind.{common_steps}
 use Rattle.apex_steps.proofs.Heard.{hears_kept, hears_line, hears_rest}
 use Rattle.apex_steps.proofs.conversations.hear.Goals as goal
 
@@ -27,3 +29,6 @@ returns-in-Rest-clause-ok g c =
     let comes : Comes Rest c.next.new.self left = rw c.in-Rest.is at c.in-Ok.ensures.comes in
     rw c.unended.ensures (hears_rest c.args.session before left c.next.new.self c.in-Ok.ensures.kept (prepend_known c.take_all.new.pending left)
     comes.0 comes.1 comes.3)
+
+pub returns-in_ok-answered-in-Line-clause-fuel : goal.returns-in_ok-answered-in-Line-clause-fuel
+returns-in_ok-answered-in-Line-clause-fuel g c = grind (arith, common_steps)

@@ -1,7 +1,8 @@
-use Rattle.std.proofs.Common.{◌∙◌}
+use Rattle.std.proofs.Common.{◌∙◌, arith}
 use Rattle.std.proofs.lemmas.Result.{err_from_is_err_and}
 use Rattle.apex_history.specs.Counted.{inner_of}
 use Rattle.apex_steps.specs.Texts.{entry_in}
+use Rattle.std.proofs.lemmas.Grind.{elements, common_steps}
 use Rattle.apex_steps.proofs.NewEntries.{put_begun, put_more}
 use Rattle.apex_steps.proofs.desks.Desk.put_entries.Goals as goal
 
@@ -22,3 +23,9 @@ loop-place-preserved g c = record {
   room = c.in_ok-make_room.ensures.room;
   failures = c.in_ok-make_room.ensures.counted ∙ c.loop-place.invariant.failures;
 }
+
+pub put_entry-requires-clause-printable : goal.put_entry-requires-clause-printable
+put_entry-requires-clause-printable g c = grind (arith, elements)
+
+pub returns-clause-ok : goal.returns-clause-ok
+returns-clause-ok g c = grind (arith, common_steps)
