@@ -18,7 +18,6 @@ use crate::watches::Watch;
 use apex_states::{Expansion, Origin, States};
 use std::alloc::{AllocError, Global};
 use std::mem::drop;
-use std::thread::Threads;
 
 /// After this many states a search shows how far it has come.
 const STRIDE: usize = 4096;
@@ -189,11 +188,9 @@ impl<W: Drop> Search<W> {
     }
 
     /// Goes on by these expansions of the states from the one that is next on and before `limit`, or
-    /// until there is an answer: why it stops then. A thread numbers the left half of each state, if it can be
-    /// made, and the caller the right one. Fails only for want of memory.
-    pub fn take<R: Threads, S: System<Workspace = W>>(
+    /// until there is an answer: why it stops then. Fails only for want of memory.
+    pub fn take<S: System<Workspace = W>>(
         &mut self,
-        rt: &R,
         alloc: Global,
         system: &S,
         limit: usize,
@@ -218,7 +215,6 @@ impl<W: Drop> Search<W> {
         ensures room { IfOk result (λ _. room_of self.new ≡ room_of self.old) }
     {
         take_all(
-            rt,
             alloc,
             system,
             &mut self.states,

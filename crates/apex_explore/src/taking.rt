@@ -9,7 +9,6 @@ use crate::search::Stop;
 use crate::systems::System;
 use apex_states::{Expansion, States};
 use std::alloc::{AllocError, Global};
-use std::thread::Threads;
 
 /// How far expansions go.
 #[derive(Clone, Copy)]
@@ -63,8 +62,7 @@ fn reach_of<S: System>(
 
 /// Keeps the states of the expansions in order, until a choice hits or there is no room for a state: why
 /// the search stops then. They end at `limit`. Fails only for want of memory.
-pub(crate) fn take_all<R: Threads, S: System>(
-    rt: &R,
+pub(crate) fn take_all<S: System>(
     alloc: Global,
     system: &S,
     states: &mut States,
@@ -83,7 +81,7 @@ pub(crate) fn take_all<R: Threads, S: System>(
     ensures past { IfOk result (λ stop. stop ≡ None → IsPast limit front.old front.new) }
 {
     let reach = reach_of(system, states, *front, limit, expansions);
-    let kept = states.keep_all(rt, alloc, &expansions[..reach.count])?;
+    let kept = states.keep_all(alloc, &expansions[..reach.count])?;
     if !kept {
         return Ok(Some(Stop::Over));
     }

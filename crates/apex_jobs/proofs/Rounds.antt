@@ -1,6 +1,6 @@
 -- What threads found in a round.
-use Rattle.std.proofs.Common.{◌≡◌, ℕ, zero, suc, ◌+◌, ◌<◌, ◌≤◌, List, [], ◌∷◌, ◌++◌, length, None, Ok, Some, IfOk, Result, refl, sym, ap, ◌∙◌, subst, inl, inr, arith, get_or, length-append}
-use Rattle.std.proofs.lemmas.Option.{same_Some, slice_get-get_or, slice_get_within}
+use Rattle.std.proofs.Common.{◌≡◌, ℕ, zero, suc, ◌+◌, ◌*◌, ◌<◌, ◌≤◌, List, [], ◌∷◌, ◌++◌, length, None, Ok, Some, IfOk, Result, refl, sym, ap, ◌∙◌, subst, inl, inr, arith, length-append}
+use Rattle.std.proofs.lemmas.Option.{same_Some, slice_get_within}
 use Rattle.std.specs.List.{slice_get, slice_set}
 use Rattle.std.specs.declared.alloc.AllocError.{AllocError}
 use Rattle.apex_explore.specs.Desks.{IsDesk, IsMade}
@@ -10,7 +10,7 @@ use Rattle.apex_explore.specs.declared.desks.Desk.{Desk}
 use Rattle.apex_explore.specs.declared.fronts.Front.{Front}
 use Rattle.apex_states.specs.declared.expansions.Expansion.{Expansion}
 use Rattle.apex_explore.proofs.Parting.{Expanded-later}
-use Rattle.apex_jobs.specs.Rounds.{AreExpansions, AreGathered, AreLaidOut}
+use Rattle.apex_jobs.specs.Rounds.{AreExpansions, AreGathered, AreLaidOut, IsDone, start_at}
 use Rattle.apex_states.specs.Expansions.{IsWide}
 use Rattle.apex_states.specs.Batches.{Copies}
 use Rattle.apex_states.specs.Lists.{AllAre, IsFront}
@@ -126,19 +126,22 @@ made_desk step word_count is_state is_workspace copies desk expansion made is =
     let same : IsDesk word_count is_workspace desk = subst Is result made.desk_is in
     record { workspace = same.workspace; next = same.next; width = same.width }
 
--- What a call at each member of a list leaves there.
-module _ {X : Type 0} (R : ℕ → X → X → Type 0) (old new : List X) (count : length new ≡ length old)
-    (each : (at : ℕ) (d : X) → at < length old → R at (get_or old at d) (get_or new at d)) where
-  pub left_of : (place : ℕ) (x : X) → slice_get old place ≡ Some x → (y : X) × (slice_get new place ≡ Some y) × R place x y
-  left_of place x is =
-      let short = slice_get_within old place x is in
-      let there = slice_get-get_or new place x (omega (arith, short, count)) in
-      let same : get_or old place x ≡ x = same_Some (get_or old place x) x (sym (slice_get-get_or old place x short) ∙ is) in
-      (get_or new place x, there, subst (λ z. R place z (get_or new place x)) same (each place x short))
-
-  pub left_from : (place : ℕ) (y : X) → slice_get new place ≡ Some y → (x : X) × (slice_get old place ≡ Some x) × R place x y
-  left_from place y is =
-      let within = slice_get_within new place y is in
-      let short : place < length old = omega (arith, within, count) in
-      let same : get_or new place y ≡ y = same_Some (get_or new place y) y (sym (slice_get-get_or new place y within) ∙ is) in
-      (get_or old place y, slice_get-get_or old place y short, subst (R place (get_or old place y)) same (each place y short))
+-- What is gathered from desks at which states were laid out and expanded.
+module _ {W : Type 0} (step : List ℕ → ℕ → Step (List ℕ)) (word_count : ℕ) (is_state : List ℕ → Type 0) (is_workspace : W → Type 0) (reached : Reached) (from limit size : ℕ) (desks : List (Desk W))
+    (done : (place : ℕ) (desk : Desk W) → slice_get desks place ≡ Some desk → IsDone step word_count is_state is_workspace reached (start_at from limit size place) (start_at from limit size (place + 1)) desk) where
+  pub AreExpansions-begun : (expansions : List Expansion) → from ≤ limit → limit ≤ from + size * length desks → reached.width ≡ word_count → AreGathered desks expansions → AreExpansions step is_state reached from limit expansions
+  AreExpansions-begun expansions in_order whole width gathered = record {
+    start = start_at from limit size;
+    starts = rw gathered.count (record { first = omega (arith, in_order); last = omega (arith, whole); within = λ part. omega arith });
+    each = λ place expansion is.
+        let (desk, there, taken) = gathered.each place expansion is in
+        let all = done place desk there in
+        let result : all.made.made ≡ Ok expansion = same_Some all.made.made (Ok expansion) (sym all.made.is ∙ taken) in
+        let Is : Result Expansion AllocError → Type 0 = λ r. IfOk r (IsExpansion step word_count is_state all.copies) in
+        let expands : IsExpansion step word_count is_state all.copies expansion = subst Is result all.made.expansion in
+        record {
+          copies = all.copies;
+          copied = all.copied;
+          is = subst (λ n. IsExpansion step n is_state all.copies expansion) (sym width) expands;
+        };
+  }

@@ -1,1 +1,2 @@
+pub mod Items
 pub mod Rounds

@@ -1,6 +1,6 @@
 -- Rounds of a level: states that are laid out on desks, and what threads found there.
 use Rattle.std.specs.Prelude.{◌≡◌, ℕ, ◌+◌, ◌*◌, ◌≤◌, List, length, min, IfOk, IfSome, None, Ok, Option, Some, slice_get}
-use Rattle.apex_explore.specs.Desks.{IsReady}
+use Rattle.apex_explore.specs.Desks.{IsMade, IsReady}
 use Rattle.apex_explore.specs.Levels.{Stops}
 use Rattle.apex_explore.specs.Parts.{Expanded, IsPast}
 use Rattle.apex_explore.specs.Searches.{IsOver, IsUnderWay, room_of}
@@ -9,7 +9,7 @@ use Rattle.apex_explore.specs.declared.desks.Desk.{Desk}
 use Rattle.apex_states.specs.declared.expansions.Expansion.{Expansion}
 use Rattle.apex_explore.specs.declared.search.Stop.{Stop}
 use Rattle.apex_explore.specs.declared.searches.Search.{Search}
-use Rattle.apex_states.specs.Batches.{IsCopied}
+use Rattle.apex_states.specs.Batches.{Copies, IsCopied}
 use Rattle.apex_states.specs.Lists.{AllAre, IsFront}
 use Rattle.apex_states.specs.States.{Reached}
 
@@ -26,6 +26,14 @@ IsLaid desk = desk.laid ≡ Ok tt
 pub record LaysOut {W : Type 0} (reached : Reached) (from limit : ℕ) (old new : Desk W) : Type 0 where
   pub copied : IfOk new.laid (λ _. IsCopied reached from limit new.batch)
   pub same : new ≡ record old { batch = new.batch; laid = new.laid }
+
+-- copies of these states were expanded at the desk, or there is no memory
+pub record IsDone {W : Type 0} (step : List ℕ → ℕ → Step (List ℕ)) (word_count : ℕ)
+    (is_state : List ℕ → Type 0) (is_workspace : W → Type 0) (reached : Reached) (from limit : ℕ)
+    (desk : Desk W) : Type 0 where
+  pub copies : Copies
+  pub copied : IsCopied reached from limit copies
+  pub made : IsMade step word_count is_state is_workspace copies desk
 
 -- the starts cut the places from `from` on and before `limit` into this many parts
 pub record AreStarts (from limit count : ℕ) (start : ℕ → ℕ) : Type 0 where

@@ -7,14 +7,15 @@ ghost use Rattle.apex_states.specs.Batches.{Copies};
 ghost use Rattle.apex_states.specs.Lists.{AllAre};
 ghost use Rattle.apex_states.specs.States.{Reached};
 
+use crate::apart::for_each_apart;
 use apex_explore::{Desk, System};
 use apex_states::Expansion;
 use std::alloc::{AllocError, Global};
 use std::marker::{Send, Sync};
-use std::thread::{Threads, for_each_mut};
+use std::thread::Threads;
 
 /// Takes what was made at each desk. Fails only for want of memory.
-fn gather<W: Drop, S: System<Workspace = W>>(
+pub(crate) fn gather<W: Drop, S: System<Workspace = W>>(
     alloc: Global,
     system: &S,
     desks: &mut [Desk<W>],
@@ -37,7 +38,7 @@ fn gather<W: Drop, S: System<Workspace = W>>(
 }
 
 /// Makes each choice in the states of each desk, until one hits there. A thread works at each desk, if one
-/// can be made for it. Fails only for want of memory.
+/// can be made for it, and the caller waits. Fails only for want of memory.
 pub(crate) fn expand_all<R: Threads + Sync, W: Drop + Send, S: System<Workspace = W> + Sync>(
     rt: &R,
     alloc: Global,
@@ -56,7 +57,6 @@ pub(crate) fn expand_all<R: Threads + Sync, W: Drop + Send, S: System<Workspace 
     ensures desks { IfOk result (λ _.
         AllAre (IsDesk (S.word_count system.now) (S.is_workspace system.now)) desks.new) }
 {
-    let count = desks.len();
     let expand = |_place: usize, desk: &mut Desk<W>|
         requires { IsDesk (S.word_count system.now) (S.is_workspace system.now) desk.now
             × IsReady (S.is_state system.now) desk.now }
@@ -65,6 +65,6 @@ pub(crate) fn expand_all<R: Threads + Sync, W: Drop + Send, S: System<Workspace 
             IsMade step (S.word_count system.entry.now) (S.is_state system.entry.now)
             (S.is_workspace system.entry.now) desk.entry.now.batch desk.exit.now }
     { desk.expand(alloc, system) };
-    for_each_mut(rt, desks, count, &expand);
+    for_each_apart(rt, desks, &expand);
     gather(alloc, system, desks)
 }

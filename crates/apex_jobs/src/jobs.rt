@@ -6,9 +6,8 @@ ghost use Rattle.apex_explore.specs.Levels.{Stops};
 ghost use Rattle.apex_explore.specs.Searches.{AreLeft, IsOver, IsSearched, IsSearchedBefore, IsUnderWay, room_of};
 ghost use Rattle.apex_explore.specs.Systems.{step_within};
 ghost use Rattle.apex_states.specs.Lists.{AllAre};
-ghost use Rattle.apex_jobs.specs.declared.jobs.TheConstants.{DESKS_A_JOB};
 
-use crate::expanding::expand_all;
+use crate::beginning::begin_all;
 use crate::laying::lay_out_all;
 use crate::taking::take_and_expand;
 use apex_explore::{Answer, Desk, Places, Search, Stop, System, Watch};
@@ -19,13 +18,10 @@ use std::thread::Threads;
 
 /// A desk has at most this many states at once. More take more memory until what is found in them is kept,
 /// and with fewer the threads wait for each other more often.
-const MOST_AT_DESK: usize = 2048;
+const MOST_AT_DESK: usize = 4096;
 
 /// To expand fewer states than this takes less time than to begin a thread.
 const LEAST_AT_DESK: usize = 32;
-
-/// A job has this many desks, and each desk a thread of its own, since some desks take longer than others.
-const DESKS_A_JOB: usize = 3;
 
 /// Of `states` states, the number of those from the place `end` on that can be laid out while those before
 /// are kept. They are those of the level, which ends at `limit`. At its end they are those of the next one
@@ -56,8 +52,8 @@ pub struct Jobs<'r, R> {
 }
 
 impl<'r, R: Threads + Sync> Jobs<'r, R> {
-    /// `jobs` jobs that expand states, each by three threads, beside the caller and one thread more, which
-    /// keep those that they find. The caller does all if `jobs` is 0 or 1.
+    /// `jobs` jobs, each with a desk and a thread that expands states there, beside a thread that keeps
+    /// those that they find. The caller does all if `jobs` is 0 or 1.
     pub fn new(rt: &'r R, jobs: u32) -> Jobs<'r, R> {
         Jobs { rt, jobs }
     }
@@ -117,13 +113,6 @@ impl<'r, R: Threads + Sync> Jobs<'r, R> {
         }
     }
 
-    /// The number of desks of a search.
-    fn desk_count(&self) -> usize
-        ensures { result ≡ self.now.jobs * DESKS_A_JOB }
-    {
-        self.jobs as usize * DESKS_A_JOB
-    }
-
     /// The desks of the jobs. Fails only for want of memory.
     fn desks<W: Drop, S: System<Workspace = W>>(
         &self,
@@ -131,12 +120,12 @@ impl<'r, R: Threads + Sync> Jobs<'r, R> {
         system: &S,
     ) -> Result<Vec<Desk<W>>, AllocError>
         ensures count { IfOk result (λ desks.
-            length desks.items ≡ self.now.jobs * DESKS_A_JOB) }
+            length desks.items ≡ self.now.jobs) }
         ensures desks { IfOk result (λ desks.
             AllAre (IsDesk (S.word_count system.now) (S.is_workspace system.now)) desks.items) }
     {
         let mut desks = Vec::new(alloc);
-        for _ in 0..self.desk_count() {
+        for _ in 0..self.jobs {
             desks.push(Desk::new(alloc, system)?)?;
         }
         Ok(desks)
@@ -148,7 +137,7 @@ impl<'r, R: Threads + Sync> Jobs<'r, R> {
         ensures some { 0 < result }
         ensures within { result ≤ left }
     {
-        let desks = self.desk_count().max(1);
+        let desks = self.jobs.max(1) as usize;
         left.min(MOST_AT_DESK.saturating_mul(desks))
     }
 
@@ -228,13 +217,13 @@ impl<'r, R: Threads + Sync> Jobs<'r, R> {
     {
         let Places { from, mut limit } = places;
         let mut end = from + self.states_at_once(limit - from);
-        lay_out_all(self.rt, alloc, system, search.states(), desks, from, end)?;
-        let mut expansions = expand_all(self.rt, alloc, system, desks)?;
+        let states = search.states();
+        let mut expansions = begin_all(self.rt, alloc, system, states, desks, from, end)?;
         loop {
             search.show(watch);
             let left = states_ahead(search.len(), end, limit, desks.len());
             if left == 0 {
-                return search.take(self.rt, alloc, system, end, expansions.as_slice());
+                return search.take(alloc, system, end, expansions.as_slice());
             }
             let next = end + self.states_at_once(left);
             lay_out_all(self.rt, alloc, system, search.states(), desks, end, next)?;

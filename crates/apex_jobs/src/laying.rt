@@ -4,22 +4,23 @@ ghost use Rattle.apex_explore.specs.Desks.{IsDesk};
 ghost use Rattle.apex_jobs.specs.Rounds.{AreLaidOut, IsLaid, LaysOut, start_at};
 ghost use Rattle.apex_states.specs.Lists.{AllAre};
 
+use crate::apart::for_each_apart;
 use apex_explore::{Desk, System};
 use apex_states::States;
 use std::alloc::{AllocError, Global};
 use std::marker::{Send, Sync};
-use std::thread::{Threads, for_each_mut};
+use std::thread::Threads;
 
 /// The place of the first state of a desk, if each has this many of the states from `from` on and before
 /// `limit`, as far as they go.
-fn start_of(from: usize, limit: usize, size: usize, desk: usize) -> usize
+pub(crate) fn start_of(from: usize, limit: usize, size: usize, desk: usize) -> usize
     ensures { result ≡ start_at from limit size desk }
 {
     limit.min(from.saturating_add(size.saturating_mul(desk)))
 }
 
 /// A number of states for each desk, so that the desks have room for all.
-fn size_for(states: usize, desks: usize) -> usize
+pub(crate) fn size_for(states: usize, desks: usize) -> usize
     requires { 0 < desks }
     ensures { states ≤ result * desks }
 {
@@ -27,7 +28,7 @@ fn size_for(states: usize, desks: usize) -> usize
 }
 
 /// Fails if there was no memory for the states of a desk.
-fn all_laid<W: Drop>(desks: &[Desk<W>]) -> Result<(), AllocError>
+pub(crate) fn all_laid<W: Drop>(desks: &[Desk<W>]) -> Result<(), AllocError>
     ensures { IfOk result (λ _. AllAre IsLaid desks.now) }
 {
     for place in 0..desks.len() {
@@ -37,8 +38,8 @@ fn all_laid<W: Drop>(desks: &[Desk<W>]) -> Result<(), AllocError>
 }
 
 /// Lays out copies of the states from the place `from` on and before `limit` on the desks, about the same
-/// number on each. A thread copies those of each desk, if one can be made for it. Fails only for want of
-/// memory.
+/// number on each. A thread copies those of each desk, if one can be made for it, and the caller waits.
+/// Fails only for want of memory.
 pub(crate) fn lay_out_all<R: Threads + Sync, W: Drop + Send, S: System<Workspace = W>>(
     rt: &R,
     alloc: Global,
@@ -73,6 +74,6 @@ pub(crate) fn lay_out_all<R: Threads + Sync, W: Drop + Send, S: System<Workspace
         let end = start_of(from, limit, size, place + 1);
         desk.lay_out(alloc, states, start, end)
     };
-    for_each_mut(rt, desks, count, &lay_out);
+    for_each_apart(rt, desks, &lay_out);
     all_laid(desks)
 }

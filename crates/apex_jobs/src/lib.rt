@@ -2,6 +2,8 @@
 //! in which it keeps the states.
 #![tactic(auto)]
 
+mod apart;
+mod beginning;
 mod expanding;
 mod jobs;
 mod laying;

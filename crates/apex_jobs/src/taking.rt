@@ -16,8 +16,9 @@ use std::alloc::{AllocError, Global};
 use std::marker::{Send, Sync};
 use std::thread::{Threads, join_mut};
 
-/// Goes on by these expansions, which end at `limit`, while threads expand the states on the desks: why the
-/// search stops, if it does, and what they found. Fails only for want of memory.
+/// Goes on by these expansions, which end at `limit`, in a thread of its own, while others expand the states
+/// on the desks and the caller waits: why the search stops, if it does, and what they found. Fails only for
+/// want of memory.
 pub(crate) fn take_and_expand<R: Threads + Sync, W: Drop + Send, S: System<Workspace = W> + Sync>(
     rt: &R,
     alloc: Global,
@@ -48,18 +49,6 @@ pub(crate) fn take_and_expand<R: Threads + Sync, W: Drop + Send, S: System<Works
     ensures desks { IfOk result (λ _.
         AllAre (IsDesk (S.word_count system.now) (S.is_workspace system.now)) desks.new) }
 {
-    let mut take = || -> Result<Option<Stop>, AllocError>
-        requires { let step = step_within (S.choice_count system.now) (S.step system.now) in
-            IsOver (S.word_count system.now) (S.is_state system.now) (S.is_workspace system.now)
-            search.now × IsUnderWay step (S.start system.now) search.now
-            × Fit step (S.is_state system.now) search.now.states search.now.front limit
-            expansions.now }
-        ensures { let step = step_within (S.choice_count system.entry.now)
-            (S.step system.entry.now) in
-            IfOk result (IsTaken step (S.start system.entry.now) (S.word_count system.entry.now)
-            (S.is_state system.entry.now) (S.is_workspace system.entry.now) limit
-            search.entry.now search.exit.now) }
-    { search.take(rt, alloc, system, limit, expansions) };
     let mut expand = || -> Result<Vec<Expansion>, AllocError>
         requires { IsSync R.row × IsSync S.row × IsSend W.row × (0 < length desks.now)
             × AllAre (IsDesk (S.word_count system.now) (S.is_workspace system.now)) desks.now
@@ -73,6 +62,18 @@ pub(crate) fn take_and_expand<R: Threads + Sync, W: Drop + Send, S: System<Works
             × AllAre (IsDesk (S.word_count system.entry.now) (S.is_workspace system.entry.now))
             desks.exit.now) }
     { expand_all(rt, alloc, system, desks) };
-    let (found, stopped) = join_mut(rt, &mut expand, &mut take);
+    let mut take = || -> Result<Option<Stop>, AllocError>
+        requires { let step = step_within (S.choice_count system.now) (S.step system.now) in
+            IsOver (S.word_count system.now) (S.is_state system.now) (S.is_workspace system.now)
+            search.now × IsUnderWay step (S.start system.now) search.now
+            × Fit step (S.is_state system.now) search.now.states search.now.front limit
+            expansions.now }
+        ensures { let step = step_within (S.choice_count system.entry.now)
+            (S.step system.entry.now) in
+            IfOk result (IsTaken step (S.start system.entry.now) (S.word_count system.entry.now)
+            (S.is_state system.entry.now) (S.is_workspace system.entry.now) limit
+            search.entry.now search.exit.now) }
+    { search.take(alloc, system, limit, expansions) };
+    let (stopped, found) = join_mut(rt, &mut take, &mut expand);
     Ok((stopped?, found?))
 }

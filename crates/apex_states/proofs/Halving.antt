@@ -1,10 +1,10 @@
 -- Halves of states.
-use Rattle.std.proofs.Common.{◌≡◌, ℕ, ◌+◌, ◌-◌, ◌≤◌, List, [], ◌∷◌, ◌++◌, length, length-append, take, drop, refl, sym, ap, ◌∙◌, subst, arith}
+use Rattle.std.proofs.Common.{◌≡◌, ℕ, ◌+◌, ◌-◌, ◌/◌, ◌≤◌, List, [], ◌∷◌, ◌++◌, length, length-append, take, drop, refl, sym, ap, ◌∙◌, subst, arith}
 use Rattle.std.proofs.lemmas.List.{length-drop, length-take-le, take-append-drop}
 use Rattle.apex_states.specs.declared.halves.Half.{Half}
 use Rattle.apex_states.specs.declared.halves.Side.{Side}
 use Rattle.apex_states.specs.declared.halves.Side.TheVariants.{Left, Right}
-use Rattle.apex_states.specs.declared.halves.TheConstants.{DEPTH}
+use Rattle.apex_states.specs.declared.halves.TheConstants.{DEPTH, PARTS}
 use Rattle.apex_states.specs.Halves.{part_of, rest_of, words_at, IsHalf, IsNumber, StillHas}
 use Rattle.apex_states.specs.Nodes.{spread, IsExact, IsHeld, IsTree}
 use Rattle.apex_states.proofs.Trees.{words_of-tree, IsHeld-refl, IsHeld-trans, IsTree-held, IsTree-same}
@@ -97,8 +97,10 @@ pub IsHalf-on : (old new : Half) → IsHalf old
     → IsHalf new
 IsHalf-on old new is held exact width long rest here number = record {
   exact = exact;
+  part = held.width ∙ (is.part ∙ sym (ap (λ w. w / PARTS + 1) width));
   long = long ∙ (is.long ∙ sym (ap (λ w. spread w DEPTH) held.width));
   wide = omega (arith, width, long, is.wide);
+  rest = rw (width, long) (rest ∙ is.rest);
   here_long = ap length here ∙ (is.here_long ∙ sym long);
   here_rest = rw (width, here) (is.here_rest ∙ sym rest);
   here = rw (number, here) (IsTree-held old.nodes new.nodes DEPTH old.number old.here.items held is.here);

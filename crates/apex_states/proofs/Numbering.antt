@@ -1,7 +1,6 @@
 -- States that were found, whose halves are numbered one after the other.
-use Rattle.std.proofs.Common.{◌≡◌, ℕ, ◌+◌, ◌-◌, ◌/◌, ◌%◌, ◌^◌, ◌<◌, List, [], ◌∷◌, ◌++◌, length, length-append, take, drop, replicate, get_or, Option, None, Some, ◌⊎◌, zero, suc, refl, sym, ap, ◌∙◌, subst, inl, inr, arith}
+use Rattle.std.proofs.Common.{◌≡◌, ℕ, ◌+◌, ◌-◌, ◌/◌, ◌%◌, ◌^◌, ◌<◌, List, [], ◌∷◌, ◌++◌, length, length-append, take, drop, replicate, get_or, Option, None, Some, zero, suc, refl, sym, ap, ◌∙◌, subst, inl, inr, arith}
 use Rattle.std.proofs.lemmas.List.{flat_map_more, length-map}
-use Rattle.std.proofs.Math.Seq.{take-length}
 use Rattle.std.proofs.lemmas.Option.{same_Some, slice_get-get_or, slice_get_within}
 use Rattle.std.specs.List.{slice_get, slice_set}
 use Rattle.apex_states.specs.declared.expansions.Expansion.{Expansion}
@@ -10,13 +9,15 @@ use Rattle.apex_states.specs.declared.halves.Side.{Side}
 use Rattle.apex_states.specs.declared.halves.Side.TheVariants.{Left, Right}
 use Rattle.apex_states.specs.Expansions.{found_in, IsWide}
 use Rattle.apex_states.specs.Finds.{found_of, Found}
-use Rattle.apex_states.specs.Halves.{number_on, part_of, IsHalf, IsNumber, StillHas}
+use Rattle.apex_states.specs.Halves.{part_of, IsHalf, IsNumber, StillHas}
 use Rattle.apex_states.specs.Keeping.{AreAllNumbered, AreFound, AreNumbered, ArePaired, AreTranslated}
 use Rattle.apex_states.specs.Lists.{AllAre}
+use Rattle.apex_states.specs.Nodes.{ArePartsFound}
+use Rattle.apex_states.specs.declared.nodes.Nodes.{Nodes}
 use Rattle.apex_states.specs.States.{seen, state_of, IsRoot, IsSided, IsStored, Reached}
 use Rattle.apex_states.proofs.Fronts.{at_old_place, get_append, set_back, IsFront-append, IsFront-push}
 use Rattle.apex_states.proofs.Gathering.{get_last}
-use Rattle.apex_states.proofs.Halving.{parts_whole, take_front, drop_front, words_at-is, IsNumber-held, StillHas-refl, StillHas-trans}
+use Rattle.apex_states.proofs.Halving.{parts_whole, take_front, drop_front, IsNumber-held, StillHas-refl, StillHas-trans}
 use Rattle.apex_states.proofs.Probing.{last_or_before}
 use Rattle.apex_states.proofs.Storing.{root_at, IsRoot-numbered}
 
@@ -30,19 +31,6 @@ number_still old new half number k side width is =
 
 same_head : (a b : ℕ) → a ∷ [] ≡ b ∷ [] → a ≡ b
 same_head a b same = cc
-
-pub IsSided-next : (roots : Reached) (side : Side) (numbers : List ℕ) (place number pair : ℕ)
-    → slice_get roots.states place ≡ Some (pair ∷ []) → number ≡ number_on side pair
-    → IsSided roots side numbers place → IsSided roots side (numbers ++ number ∷ []) (place + 1)
-IsSided-next roots side numbers place number pair there is so_far = record {
-  count_is = omega (arith, length-append numbers (number ∷ []), so_far.count_is);
-  each = λ at other at_is. elim (last_or_before numbers number at other at_is) [
-    | inl before ↦ so_far.each at other before
-    | inr (at_last, same) ↦
-        let e : at ≡ place = omega (arith, at_last, so_far.count_is) in
-        (pair, ap (slice_get roots.states) e ∙ there, sym same ∙ is)
-  ];
-}
 
 -- the halves of a state at a place, if these are the numbers on this side
 pub numbered_left : (roots : Reached) (left right : Half) (numbers : List ℕ) → IsStored roots left right → IsSided roots Left numbers (length roots.states)
@@ -80,25 +68,6 @@ numbered_right roots left right numbers stored sided = record {
 
 -- Numbers of known halves that are translated, one after the other.
 
--- a half of these words, of which there are no more, is all of them
-pub part_whole : (side : Side) (width : ℕ) (words : List ℕ) → length words ≡ width → part_of side width words ≡ words
-part_whole Left width words long = ap (λ n. take n words) (sym long) ∙ take-length words
-part_whole Right width words long =
-    let none : length words - width ≡ 0 = omega (arith, long) in
-    ap (λ n. drop n words) none
-
--- the number is that of the known half
-pub known_number : (known half : Half) (side : Side) (width number translated : ℕ) (words k : List ℕ)
-    → length words ≡ width → IsNumber known number words → IsNumber half translated (part_of side width words)
-    → IsNumber known number k → IsNumber half translated k
-known_number known half side width number translated words k long is numbered other =
-    let same : words ≡ k = sym (words_at-is known number words is) ∙ words_at-is known number k other in
-    subst (IsNumber half translated) (part_whole side width words long ∙ same) numbered
-
--- what was found is right still, once there are more halves
-AreFound-held : (known half new : Half) (found : List (Option ℕ)) → StillHas half new → AreFound known half found → AreFound known new found
-AreFound-held known half new found has are number translated k there is = IsNumber-held half new translated k has (are number translated k there is)
-
 some_none : (x : ℕ) → Some x ≡ None → ⊥
 some_none x same = cc
 
@@ -125,6 +94,11 @@ pub all_none : (count place : ℕ) (x : Option ℕ) → slice_get (replicate cou
 all_none zero place x is = cc
 all_none (suc count) zero x is = cc
 all_none (suc count) (suc place) x is = all_none count place x is
+
+-- no part is found yet
+pub ArePartsFound-none : (known nodes : Nodes) (found : List (Option ℕ))
+    → ((number : ℕ) (x : Option ℕ) → slice_get found number ≡ Some x → x ≡ None) → ArePartsFound known nodes found
+ArePartsFound-none known nodes found vacant number among k there is = absurd (some_none among (vacant number (Some among) there))
 
 -- nothing is translated yet
 pub IsTranslating-none : (known half : Half) (numbers among : List ℕ) (found : List (Option ℕ)) → IsHalf half → among ≡ []

@@ -1,14 +1,14 @@
 -- Trees of pairs.
-use Rattle.std.proofs.Common.{◌≡◌, ℕ, zero, suc, ◌+◌, ◌/◌, ◌%◌, ◌^◌, List, [], ◌∷◌, ◌++◌, length, length-append, take, drop, Option, None, Some, Result, Ok, Err, refl, sym, ap, ◌∙◌, subst, arith}
+use Rattle.std.proofs.Common.{◌≡◌, ℕ, zero, suc, ◌+◌, ◌/◌, ◌%◌, ◌^◌, List, [], ◌∷◌, ◌++◌, length, length-append, take, drop, Option, Some, Result, Ok, Err, refl, sym, ap, ◌∙◌, subst, inl, inr, arith}
 use Rattle.std.proofs.lemmas.List.{take-append-drop}
 use Rattle.std.proofs.lemmas.Option.{get_or_from_slice_get, same_Some}
-use Rattle.std.specs.List.{slice_get}
-use Rattle.std.specs.Prelude.{IfOk, IfSome, slice_index_or}
+use Rattle.std.specs.List.{slice_get, slice_set}
+use Rattle.std.specs.Prelude.{IfOk, slice_index_or}
 use Rattle.apex_states.specs.Lists.{IsFront}
 use Rattle.apex_states.specs.Rows.{Packed}
-use Rattle.apex_states.specs.Nodes.{IsExact, IsHeld, IsTree, Joins, joined, spread, words_of}
+use Rattle.apex_states.specs.Nodes.{ArePartsFound, IsExact, IsHeld, IsTree, Joins, joined, spread, words_of}
 use Rattle.apex_states.specs.declared.nodes.Nodes.{Nodes}
-use Rattle.apex_states.proofs.Fronts.{IsFront-refl, IsFront-trans}
+use Rattle.apex_states.proofs.Fronts.{set_back, IsFront-refl, IsFront-trans}
 
 -- What is there stays there.
 
@@ -68,9 +68,6 @@ words_of-tree nodes zero number k there = get_or_from_slice_get nodes.parts.rows
 words_of-tree nodes (suc depth) number k (row, there, joins) =
     ap (joined (words_of nodes depth)) (get_or_from_slice_get nodes.pairs.rows number row [] there)
     ∙ joined-is (IsTree nodes depth) (words_of nodes depth) row k (λ n l tree. words_of-tree nodes depth n l tree) joins
-
-pub joined-root : (nodes : Nodes) (depth : ℕ) (row k : List ℕ) → Joins (IsTree nodes depth) row k → joined (words_of nodes depth) row ≡ k
-joined-root nodes depth row k joins = joined-is (IsTree nodes depth) (words_of nodes depth) row k (λ n l tree. words_of-tree nodes depth n l tree) joins
 
 -- Words have one number.
 
@@ -215,16 +212,43 @@ known_halves P pair left right known front back joins halves whole left_is right
     same_head : (a b : ℕ) → a ∷ [] ≡ b ∷ [] → a ≡ b
     same_head a b same = cc
 
-pub same_tree : (nodes : Nodes) (depth number : ℕ) (words known : List ℕ) → words ≡ known → IsTree nodes depth number known → IsTree nodes depth number words
-same_tree nodes depth number words known same tree =
-    let Is : List ℕ → Type 0 = λ k. IsTree nodes depth number k in
-    subst Is (sym same) tree
+-- Known trees, whose numbers are translated.
 
--- the tree of a pair that was found
-pub IsTree-found : (nodes : Nodes) (depth less word : ℕ) (words : List ℕ) (result : Option ℕ)
-    → suc less ≡ depth
-    → IfSome result (λ number. slice_get nodes.pairs.rows number ≡ Some (word ∷ []))
-    → Joins (IsTree nodes less) (word ∷ []) words
-    → IfSome result (λ number. IsTree nodes depth number words)
-IsTree-found nodes depth less word words (Some number) e there joins = IsTree-paired nodes depth less number word words e there joins
-IsTree-found nodes depth less word words None e there joins = tt
+-- the number of a pair of which both halves are translated
+pub IsTree-translated : {E : Type 0} (known old : Nodes) (pairs : Packed) (depth less number word : ℕ) (row : List ℕ) (result : Result ℕ E)
+    → depth ≡ suc less
+    → slice_get known.pairs.rows number ≡ Some row → length row ≡ 1
+    → ((k : List ℕ) → Joins (IsTree known less) (slice_index_or row 0 0 ∷ []) k → Joins (IsTree old less) (word ∷ []) k)
+    → IsFront old.pairs.rows pairs.rows
+    → IfOk result (λ among. slice_get pairs.rows among ≡ Some (word ∷ []))
+    → IfOk result (λ among. (k : List ℕ) → IsTree known depth number k → IsTree (record { parts = old.parts; pairs = pairs }) depth among k)
+IsTree-translated known old pairs depth less number word row (Ok among) e here one halves front there = λ k tree.
+    let new : Nodes = record { parts = old.parts; pairs = pairs } in
+    let joins = Joins-single (IsTree known less) row k one (tree_halves known depth less number row k e here tree) in
+    IsTree-paired new depth less among word k (sym e) there (Joins-held old new less (word ∷ []) k (IsHeld-pairs old new refl front) (halves k joins))
+IsTree-translated known old pairs depth less number word row (Err error) e here one halves front there = tt
+
+-- the pair of two numbers that are translated
+pub Joins-translated : (Is : ℕ → List ℕ → Type 0) (old new : Nodes) (depth pair left right among_left among_right word : ℕ) (k : List ℕ)
+    → IsHeld old new
+    → left ≡ pair / 2 ^ 32 → right ≡ pair % 2 ^ 32
+    → ((front : List ℕ) → Is left front → IsTree old depth among_left front)
+    → ((back : List ℕ) → Is right back → IsTree new depth among_right back)
+    → word / 2 ^ 32 ≡ among_left → word % 2 ^ 32 ≡ among_right
+    → Joins Is (pair ∷ []) k → Joins (IsTree new depth) (word ∷ []) k
+Joins-translated Is old new depth pair left right among_left among_right word k held left_is right_is one other high low joins =
+    let (front, back) = known_halves Is pair left right k joins.front joins.back joins joins.halves joins.words_are left_is right_is in
+    Joins-halves old new depth among_left among_right word k joins.front joins.back held (one joins.front front) (other joins.back back) high low joins.halves joins.words_are
+
+-- what was found of parts is right still, once there are more
+pub ArePartsFound-held : (known nodes new : Nodes) (found : List (Option ℕ)) → IsHeld nodes new → ArePartsFound known nodes found → ArePartsFound known new found
+ArePartsFound-held known nodes new found held are number among k there is = held.parts.same among k (are number among k there is)
+
+-- one part more is found
+pub ArePartsFound-set : (known nodes new : Nodes) (found : List (Option ℕ)) (number among : ℕ) → IsHeld nodes new
+    → ((k : List ℕ) → IsTree known 0 number k → IsTree new 0 among k)
+    → ArePartsFound known nodes found → ArePartsFound known new (slice_set found number (Some among))
+ArePartsFound-set known nodes new found number among held right are other it k there is = elim (set_back found number (Some among) other (Some it) there) [
+  | inl (e, same) ↦ subst (λ n. IsTree new 0 n k) (same_Some among it same) (right k (subst (λ n. IsTree known 0 n k) e is))
+  | inr (_, before) ↦ held.parts.same it k (are other it k before is)
+]

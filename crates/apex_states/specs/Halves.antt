@@ -1,9 +1,9 @@
 -- Halves of states, as they are kept in memory.
-use Rattle.std.specs.Prelude.{◌≡◌, ℕ, ◌-◌, ◌/◌, ◌%◌, ◌^◌, ◌≤◌, List, ◌++◌, length, take, drop}
+use Rattle.std.specs.Prelude.{◌≡◌, ℕ, ◌+◌, ◌-◌, ◌/◌, ◌%◌, ◌^◌, ◌≤◌, List, ◌++◌, length, replicate, take, drop}
 use Rattle.apex_states.specs.declared.halves.Half.{Half}
 use Rattle.apex_states.specs.declared.halves.Side.{Side}
 use Rattle.apex_states.specs.declared.halves.Side.TheVariants.{Left, Right}
-use Rattle.apex_states.specs.declared.halves.TheConstants.{DEPTH}
+use Rattle.apex_states.specs.declared.halves.TheConstants.{DEPTH, PARTS}
 use Rattle.apex_states.specs.Nodes.{IsExact, IsHeld, IsTree, spread, words_of}
 
 -- the words of a state on this side, of which there are this many
@@ -34,11 +34,14 @@ pub record IsNumber (half : Half) (number : ℕ) (words : List ℕ) : Type 0 whe
 abbrev pub words_at : Half → ℕ → List ℕ
 words_at half number = take half.width (words_of half.nodes DEPTH number)
 
--- the trees are exact and as long as the words, and the number is that of the half that is here
+-- the trees are exact and as long as the words, zeros stand behind those of each half, and the number
+-- is that of the half that is here
 pub record IsHalf (half : Half) : Type 0 where
   pub exact : IsExact half.nodes
+  pub part : half.nodes.parts.width ≡ half.width / PARTS + 1
   pub long : length half.words.items ≡ spread half.nodes.parts.width DEPTH
   pub wide : half.width ≤ length half.words.items
+  pub rest : rest_of half ≡ replicate (length half.words.items - half.width) 0
   pub here_long : length half.here.items ≡ length half.words.items
   pub here_rest : drop half.width half.here.items ≡ rest_of half
   pub here : IsTree half.nodes DEPTH half.number half.here.items

@@ -1,5 +1,5 @@
 -- Words as trees of pairs.
-use Rattle.std.specs.Prelude.{◌≡◌, ℕ, zero, suc, ◌+◌, ◌/◌, ◌%◌, ◌^◌, List, [], ◌∷◌, ◌++◌, length, slice_get, get_or, Some}
+use Rattle.std.specs.Prelude.{◌≡◌, ℕ, zero, suc, ◌+◌, ◌/◌, ◌%◌, ◌^◌, List, [], ◌∷◌, ◌++◌, length, slice_get, get_or, Option, Some}
 use Rattle.apex_states.specs.Lists.{IsFront}
 use Rattle.apex_states.specs.Registers.{AreApart}
 use Rattle.apex_states.specs.Rows.{no_rows}
@@ -53,3 +53,9 @@ pub record IsHeld (old new : Nodes) : Type 0 where
   pub parts : IsFront old.parts.rows new.parts.rows
   pub pairs : IsFront old.pairs.rows new.pairs.rows
   pub width : new.parts.width ≡ old.parts.width
+
+-- what was found at the place of a known part's number is the number of the part with the same words
+abbrev pub ArePartsFound : Nodes → Nodes → List (Option ℕ) → Type 0
+ArePartsFound known nodes found = (number among : ℕ) (k : List ℕ)
+    → slice_get found number ≡ Some (Some among)
+    → IsTree known zero number k → IsTree nodes zero among k

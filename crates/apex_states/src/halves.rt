@@ -1,6 +1,7 @@
 //! The halves of states on one side, as trees of their words.
 ghost use Rattle.std.specs.Prelude.{◌≡◌, ℕ, ◌<◌, ◌≤◌, ◌++◌, List, drop, length, IfOk};
 ghost use Rattle.apex_states.specs.Halves.{part_of, IsHalf, IsNumber, StillHas};
+ghost use Rattle.apex_states.specs.Nodes.{ArePartsFound};
 
 use crate::nodes::Nodes;
 use std::alloc::{AllocError, Global};
@@ -54,7 +55,7 @@ pub(crate) struct Half {
     side: Side,
     width: usize,
     nodes: Nodes,
-    /// The words of a half, and some more that never change, so that all are cut into equal parts.
+    /// The words of a half, and some zeros that never change, so that all are cut into equal parts.
     words: Vec<u64>,
     /// Those of the half that was restored last. One that is numbered next is nearly this one.
     here: Vec<u64>,
@@ -139,6 +140,39 @@ impl Half {
         ensures { (number : ℕ) (k : List ℕ) → IsNumber self.now number k → number < result }
     {
         self.nodes.pair_count()
+    }
+
+    /// How many parts the halves have: the number of each is below this.
+    pub(crate) fn part_count(&self) -> usize
+        ensures { result ≡ length self.now.nodes.parts.rows }
+    {
+        self.nodes.part_count()
+    }
+
+    /// The number among these halves of the known one with this number. `parts` has the numbers of
+    /// the known parts that were found before. Fails only for want of memory.
+    pub(crate) fn translate(
+        &mut self,
+        alloc: Global,
+        known: &Half,
+        number: u32,
+        parts: &mut [Option<u32>],
+    ) -> Result<u32, AllocError>
+        requires half { IsHalf self.old }
+        requires known { IsHalf known.now }
+        requires width { known.now.width ≡ self.old.width }
+        requires number { (k : List ℕ) × IsNumber known.now number k }
+        requires parts { ArePartsFound known.now.nodes self.old.nodes parts.old }
+        requires slots { length parts.old ≡ length known.now.nodes.parts.rows }
+        ensures number { IfOk result (λ among. (k : List ℕ)
+            → IsNumber known.now number k → IsNumber self.new among k) }
+        ensures parts { ArePartsFound known.now.nodes self.new.nodes parts.new }
+        ensures slots { length parts.new ≡ length parts.old }
+        ensures held { StillHas self.old self.new }
+        ensures half { IsHalf self.new }
+    {
+        self.nodes
+            .translate(alloc, &known.nodes, DEPTH, number, parts)
     }
 
     /// Restores the half with this number: those that are numbered next are nearly that one.

@@ -1,11 +1,12 @@
-//! States that were found are kept: their halves are numbered, by a thread for each side, and then the
-//! pairs of these numbers are entered.
+//! States that were found are kept: their halves are numbered, those of one side after those of the
+//! other, and then the pairs of these numbers are entered.
 ghost use Rattle.std.specs.Prelude.{◌≡◌, ℕ, ◌<◌, List, length, IfOk};
 ghost use Rattle.apex_states.specs.Expansions.{origins_of, states_of};
 ghost use Rattle.apex_states.specs.Finds.{AreKept};
 ghost use Rattle.apex_states.specs.Halves.{width_on, IsHalf, IsNumber, StillHas};
 ghost use Rattle.apex_states.specs.Keeping.{roots_found, AreAllNumbered, AreFound, AreNumbered, ArePaired, AreTranslated, CanNumberAll};
 ghost use Rattle.apex_states.specs.Lists.{AllAre};
+ghost use Rattle.apex_states.specs.Nodes.{ArePartsFound};
 
 use crate::expansions::Expansion;
 use crate::finds::Finds;
@@ -14,43 +15,16 @@ use crate::pairs::Pair;
 use crate::roots::Roots;
 use crate::states::Origin;
 use std::alloc::{AllocError, Global};
-use std::thread::{Threads, join_mut};
-
-/// The number of the known half with this number among these halves. `room` is for the words of its tree,
-/// and `words` for its own. Fails only for want of memory.
-fn number_known(
-    alloc: Global,
-    half: &mut Half,
-    known: &Half,
-    number: u32,
-    room: &mut Vec<u64>,
-    words: &mut [u64],
-) -> Result<u32, AllocError>
-    requires half { IsHalf half.old }
-    requires known { IsHalf known.now }
-    requires width { known.now.width ≡ half.old.width }
-    requires number { (k : List ℕ) × IsNumber known.now number k }
-    requires words { length words.old ≡ known.now.width }
-    ensures number { IfOk result (λ among. (k : List ℕ)
-        → IsNumber known.now number k → IsNumber half.new among k) }
-    ensures words { length words.new ≡ length words.old }
-    ensures held { StillHas half.old half.new }
-    ensures half { IsHalf half.new }
-{
-    known.read(alloc, number, room, words)?;
-    half.begin(alloc, words)
-}
 
 /// The number of the known half with this number among these halves. It is looked up unless it was found
-/// before. `room` is for the words of its tree, and `words` for its own. Fails only for want of memory.
+/// before, and so is each of its parts. Fails only for want of memory.
 fn translate(
     alloc: Global,
     half: &mut Half,
     known: &Half,
     number: u32,
     found: &mut [Option<u32>],
-    room: &mut Vec<u64>,
-    words: &mut [u64],
+    parts: &mut [Option<u32>],
 ) -> Result<u32, AllocError>
     requires half { IsHalf half.old }
     requires known { IsHalf known.now }
@@ -58,19 +32,21 @@ fn translate(
     requires number { (k : List ℕ) × IsNumber known.now number k }
     requires found { AreFound known.now half.old found.old }
     requires slot { number < length found.old }
-    requires words { length words.old ≡ known.now.width }
+    requires parts { ArePartsFound known.now.nodes half.old.nodes parts.old }
+    requires part_slots { length parts.old ≡ length known.now.nodes.parts.rows }
     ensures number { IfOk result (λ among. (k : List ℕ)
         → IsNumber known.now number k → IsNumber half.new among k) }
     ensures found { IfOk result (λ _. AreFound known.now half.new found.new) }
     ensures slots { length found.new ≡ length found.old }
-    ensures words { length words.new ≡ length words.old }
+    ensures parts { ArePartsFound known.now.nodes half.new.nodes parts.new }
+    ensures part_slots { length parts.new ≡ length parts.old }
     ensures held { StillHas half.old half.new }
     ensures half { IsHalf half.new }
 {
     match found[number as usize] {
         Some(translated) => Ok(translated),
         None => {
-            let translated = number_known(alloc, half, known, number, room, words)?;
+            let translated = half.translate(alloc, known, number, parts)?;
             found[number as usize] = Some(translated);
             Ok(translated)
         }
@@ -96,13 +72,10 @@ fn translate_all(
 {
     let mut among = Vec::with_capacity(alloc, numbers.len())?;
     let mut found = vec![in alloc; None; known.count()]?;
-    let found = found.as_mut_slice();
-    let mut room = Vec::new(alloc);
-    let mut words = vec![in alloc; 0; known.width()]?;
-    let words = words.as_mut_slice();
+    let mut parts = vec![in alloc; None; known.part_count()]?;
+    let (found, parts) = (found.as_mut_slice(), parts.as_mut_slice());
     for place in 0..numbers.len() {
-        let number = numbers[place];
-        among.push(translate(alloc, half, known, number, found, &mut room, words)?)?;
+        among.push(translate(alloc, half, known, numbers[place], found, parts)?)?;
     }
     Ok(among)
 }
@@ -142,8 +115,7 @@ fn number_all(
 
 /// The numbers of the left and of the right half of each state that was found in the expansions. Fails
 /// only for want of memory.
-pub(crate) fn number_both<R: Threads>(
-    rt: &R,
+pub(crate) fn number_both(
     alloc: Global,
     left: &mut Half,
     right: &mut Half,
@@ -160,20 +132,9 @@ pub(crate) fn number_both<R: Threads>(
     ensures left { IsHalf left.new }
     ensures right { IsHalf right.new }
 {
-    let mut number_left = || -> Result<Vec<u32>, AllocError>
-        requires { CanNumberAll left.now expansions.now }
-        ensures { IfOk result (λ numbers.
-            AreAllNumbered left.exit.now expansions.entry.now numbers.items)
-            × StillHas left.entry.now left.exit.now × IsHalf left.exit.now }
-    { number_all(alloc, left, expansions) };
-    let mut number_right = || -> Result<Vec<u32>, AllocError>
-        requires { CanNumberAll right.now expansions.now }
-        ensures { IfOk result (λ numbers.
-            AreAllNumbered right.exit.now expansions.entry.now numbers.items)
-            × StillHas right.entry.now right.exit.now × IsHalf right.exit.now }
-    { number_all(alloc, right, expansions) };
-    let (lefts, rights) = join_mut(rt, &mut number_left, &mut number_right);
-    Ok((lefts?, rights?))
+    let lefts = number_all(alloc, left, expansions)?;
+    let rights = number_all(alloc, right, expansions)?;
+    Ok((lefts, rights))
 }
 
 /// The pairs of these numbers. Fails only for want of memory.

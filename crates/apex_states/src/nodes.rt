@@ -1,8 +1,8 @@
 //! Words as trees. A row of words is cut in halves, each half again, and so on down to parts of a
 //! few words. Each part and each pair of halves is kept once, so rows that share halves share their
 //! memory.
-ghost use Rattle.std.specs.Prelude.{◌≡◌, ℕ, ◌+◌, List, [], ◌∷◌, length, IfOk};
-ghost use Rattle.apex_states.specs.Nodes.{IsExact, IsHeld, IsTree, Joins, no_nodes, spread};
+ghost use Rattle.std.specs.Prelude.{◌≡◌, ℕ, ◌+◌, ◌<◌, List, [], ◌∷◌, length, IfOk};
+ghost use Rattle.apex_states.specs.Nodes.{ArePartsFound, IsExact, IsHeld, IsTree, Joins, no_nodes, spread};
 
 use crate::pairs::Pair;
 use crate::registers::Register;
@@ -29,6 +29,13 @@ impl Nodes {
             parts: Register::new(alloc, width, FIRST_ROOM)?,
             pairs: Register::new(alloc, 1, FIRST_ROOM)?,
         })
+    }
+
+    /// The number of parts: the number of a part is below it.
+    pub(crate) fn part_count(&self) -> usize
+        ensures { result ≡ length self.now.parts.rows }
+    {
+        self.parts.len()
     }
 
     /// The number of pairs: the number of a tree that is no part is below it.
@@ -138,6 +145,100 @@ impl Nodes {
         let left = self.number_like(alloc, depth, front, known_front, pair.left)?;
         let right = self.number_like(alloc, depth, back, known_back, pair.right)?;
         Ok(Pair { left, right }.word())
+    }
+
+    /// The number among these trees of the known one with this number. A part is looked up unless
+    /// `found` has its number among these. Fails only for want of memory.
+    #[cycle(translates)]
+    pub(crate) fn translate(
+        &mut self,
+        alloc: Global,
+        known: &Nodes,
+        depth: u32,
+        number: u32,
+        found: &mut [Option<u32>],
+    ) -> Result<u32, AllocError>
+        requires exact { IsExact self.old }
+        requires known { IsExact known.now }
+        requires width { known.now.parts.width ≡ self.old.parts.width }
+        requires number { (k : List ℕ) × IsTree known.now depth number k }
+        requires found { ArePartsFound known.now self.old found.old }
+        requires slots { length found.old ≡ length known.now.parts.rows }
+        ensures number { IfOk result (λ among. (k : List ℕ)
+            → IsTree known.now depth number k → IsTree self.new depth among k) }
+        ensures found { ArePartsFound known.now self.new found.new }
+        ensures slots { length found.new ≡ length found.old }
+        ensures held { IsHeld self.old self.new }
+        ensures exact { IsExact self.new }
+    {
+        if depth == 0 {
+            return self.translate_part(alloc, known, number, found);
+        }
+        let pair = known.pairs.row(number as usize)[0];
+        let word = self.translate_halves(alloc, known, depth - 1, pair, found)?;
+        self.pairs.number(alloc, &[word])
+    }
+
+    /// The numbers among these trees of both known ones with the numbers in `pair`, in one word;
+    /// `depth` is that of a half. Fails only for want of memory.
+    #[cycle(translates)]
+    fn translate_halves(
+        &mut self,
+        alloc: Global,
+        known: &Nodes,
+        depth: u32,
+        pair: u64,
+        found: &mut [Option<u32>],
+    ) -> Result<u64, AllocError>
+        requires exact { IsExact self.old }
+        requires known { IsExact known.now }
+        requires width { known.now.parts.width ≡ self.old.parts.width }
+        requires halves { (k : List ℕ) × Joins (IsTree known.now depth) (pair ∷ []) k }
+        requires found { ArePartsFound known.now self.old found.old }
+        requires slots { length found.old ≡ length known.now.parts.rows }
+        ensures halves { IfOk result (λ word. (k : List ℕ)
+            → Joins (IsTree known.now depth) (pair ∷ []) k
+            → Joins (IsTree self.new depth) (word ∷ []) k) }
+        ensures found { ArePartsFound known.now self.new found.new }
+        ensures slots { length found.new ≡ length found.old }
+        ensures held { IsHeld self.old self.new }
+        ensures exact { IsExact self.new }
+    {
+        let pair = Pair::of(pair);
+        let left = self.translate(alloc, known, depth, pair.left, found)?;
+        let right = self.translate(alloc, known, depth, pair.right, found)?;
+        Ok(Pair { left, right }.word())
+    }
+
+    /// The number among these parts of the known one with this number. It is looked up unless
+    /// `found` has it. Fails only for want of memory.
+    fn translate_part(
+        &mut self,
+        alloc: Global,
+        known: &Nodes,
+        number: u32,
+        found: &mut [Option<u32>],
+    ) -> Result<u32, AllocError>
+        requires exact { IsExact self.old }
+        requires width { known.now.parts.width ≡ self.old.parts.width }
+        requires number { number < length known.now.parts.rows }
+        requires found { ArePartsFound known.now self.old found.old }
+        requires slots { length found.old ≡ length known.now.parts.rows }
+        ensures number { IfOk result (λ among. (k : List ℕ)
+            → IsTree known.now 0 number k → IsTree self.new 0 among k) }
+        ensures found { ArePartsFound known.now self.new found.new }
+        ensures slots { length found.new ≡ length found.old }
+        ensures held { IsHeld self.old self.new }
+        ensures exact { IsExact self.new }
+    {
+        match found[number as usize] {
+            Some(among) => Ok(among),
+            None => {
+                let among = self.parts.number(alloc, known.parts.row(number as usize))?;
+                found[number as usize] = Some(among);
+                Ok(among)
+            }
+        }
     }
 
     /// Puts the words of the tree with this number into these.

@@ -15,7 +15,6 @@ use crate::pairs::Pair;
 use crate::roots::Roots;
 use std::alloc::{AllocError, Global};
 use std::marker::Model;
-use std::thread::Threads;
 
 /// The choice by which a state was found, and the place of the state that it was made in.
 #[derive(Clone, Copy)]
@@ -164,21 +163,15 @@ impl States {
     }
 
     /// Keeps the states that were found in the expansions, in order, until there is no room for one: false
-    /// then. A thread numbers the left half of each, if it can be made, and the caller the right one. Fails
-    /// only for want of memory.
-    pub fn keep_all<R: Threads>(
-        &mut self,
-        rt: &R,
-        alloc: Global,
-        expansions: &[Expansion],
-    ) -> Result<bool, AllocError>
+    /// then. Fails only for want of memory.
+    pub fn keep_all(&mut self, alloc: Global, expansions: &[Expansion]) -> Result<bool, AllocError>
         requires paired { length self.old.origins ≡ length self.old.states }
         requires wide { AllAre (IsWide self.old.width) expansions.now }
         ensures { IfOk result (AreKept (found_in self.old.width expansions.now) self.old self.new) }
     {
         let origins = gather_origins(alloc, expansions)?;
         let (left, right) = (&mut self.left, &mut self.right);
-        let (lefts, rights) = number_both(rt, alloc, left, right, expansions)?;
+        let (lefts, rights) = number_both(alloc, left, right, expansions)?;
         let pairs = pair_all(alloc, lefts.as_slice(), rights.as_slice())?;
         Ok(enter_all(&mut self.roots, pairs.as_slice(), origins.as_slice()))
     }

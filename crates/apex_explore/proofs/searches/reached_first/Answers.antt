@@ -1,5 +1,5 @@
 -- The first state is kept, unless there is no room.
-use Rattle.std.proofs.Common.{◌≡◌, ap, ◌∙◌}
+use Rattle.std.proofs.Common.{ap}
 use Rattle.apex_states.specs.States.{Reached}
 use Rattle.apex_states.specs.declared.states.Origin.{Origin}
 use Rattle.apex_explore.specs.Systems.{step_within}

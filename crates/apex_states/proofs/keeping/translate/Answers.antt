@@ -8,4 +8,4 @@ pub returns-in-Some-clause-number : goal.returns-in-Some-clause-number
 returns-in-Some-clause-number c = λ k is. c.requires.found c.args.number c.in-Some.translated k (slice_get-get_or c.args.found.now c.args.number None c.requires.slot ∙ ap Some c.in-Some.is) is
 
 pub returns-in_ok-translated-in-None-clause-found : goal.returns-in_ok-translated-in-None-clause-found
-returns-in_ok-translated-in-None-clause-found c = AreFound-set c.args.known.now c.args.half.now c.number_known.new.half c.args.found.now c.args.number c.in_ok-translated-in-None.translated c.number_known.ensures.held c.in_ok-translated-in-None.ensures.number c.requires.found
+returns-in_ok-translated-in-None-clause-found c = AreFound-set c.args.known.now c.args.half.now c.translate.new.self c.args.found.now c.args.number c.in_ok-translated-in-None.translated c.translate.ensures.held c.in_ok-translated-in-None.ensures.number c.requires.found

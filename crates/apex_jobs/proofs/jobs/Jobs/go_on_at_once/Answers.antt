@@ -25,7 +25,7 @@ loop-search-preserved g c =
     let end = c.loop-search.end in
     let count = c.states_at_once-in-loop-search.result in
     let next : ℕ = end + count in
-    let laid = rw c.states-in-loop-search.ensures at c.in_ok-lay_out_all-2.ensures.laid in
+    let laid = rw c.states.ensures at c.in_ok-lay_out_all.ensures.laid in
     let found = c.in_ok-stop.ensures.expansions old.states end next so_far.over.width laid in
     let kept = AreExpansions-later step is_state old.states new.states end next c.in_ok-stop.more.items taken.states (taken.over.width ∙ sym so_far.over.width) found in
     let states : turn.states ≡ new.states = ap (λ (s : Search g.row.W.Denot). s.states) c.turn.ensures.same in
@@ -52,7 +52,7 @@ loop-search-preserved g c =
       });
       searched = c.turn.ensures.searched;
       desks = c.in_ok-stop.ensures.desks;
-      some = omega (arith, so_far.some, c.lay_out_all-in-loop-search.auto.desks, c.take_and_expand.auto.desks);
+      some = omega (arith, so_far.some, c.lay_out_all.auto.desks, c.take_and_expand.auto.desks);
       expansions = subst From (sym at) (subst In (sym states) kept);
       further = omega (arith, at, so_far.further, so_far.before);
       before = omega (arith, at, c.states_at_once-in-loop-search.ensures.some);
@@ -83,8 +83,8 @@ loop-search-init g c = grind (arith, common_steps)
 pub take-requires-clause-fit : goal.take-requires-clause-fit
 take-requires-clause-fit g c = grind (arith, common_steps)
 
-pub lay_out_all-requires-in-loop-search-clause-states : goal.lay_out_all-requires-in-loop-search-clause-states
-lay_out_all-requires-in-loop-search-clause-states g c κs within = grind (arith, common_steps)
+pub lay_out_all-requires-clause-states : goal.lay_out_all-requires-clause-states
+lay_out_all-requires-clause-states g c κs within = grind (arith, common_steps)
 
 pub take_and_expand-requires-clause-fit : goal.take_and_expand-requires-clause-fit
 take_and_expand-requires-clause-fit g c κs within = grind (arith, common_steps)

@@ -6,20 +6,20 @@ use Rattle.apex_states.proofs.Storing.{IsStored-held}
 use Rattle.apex_states.proofs.states.States.keep_all.Goals as goal
 
 pub number_both-requires-clause-left : goal.number_both-requires-clause-left
-number_both-requires-clause-left g c = can_number_left c.self.inside.roots c.self.inside.left c.self.inside.right c.args.expansions.now c.self.invariant (rw (← c.self.view_is) at c.requires.wide)
+number_both-requires-clause-left c = can_number_left c.self.inside.roots c.self.inside.left c.self.inside.right c.args.expansions.now c.self.invariant (rw (← c.self.view_is) at c.requires.wide)
 
 pub number_both-requires-clause-right : goal.number_both-requires-clause-right
-number_both-requires-clause-right g c = can_number_right c.self.inside.roots c.self.inside.left c.self.inside.right c.args.expansions.now c.self.invariant (rw (← c.self.view_is) at c.requires.wide)
+number_both-requires-clause-right c = can_number_right c.self.inside.roots c.self.inside.left c.self.inside.right c.args.expansions.now c.self.invariant (rw (← c.self.view_is) at c.requires.wide)
 
 pub pair_all-requires : goal.pair_all-requires
-pair_all-requires g c =
+pair_all-requires c =
     let numbered = c.in_ok-lefts.ensures in
     let wide = rw (← c.self.view_is) at c.requires.wide in
     let counts = counts_found c.self.inside.roots c.self.inside.left c.self.inside.right c.number_both.new.left c.number_both.new.right c.args.expansions.now c.in_ok-lefts.lefts.items c.in_ok-lefts.rights.items wide numbered.lefts numbered.rights in
     rw (c.as_slice.ensures.value, c.as_slice-2.ensures.value) (omega (arith, counts))
 
 pub enter_all-requires-clause-count : goal.enter_all-requires-clause-count
-enter_all-requires-clause-count g c =
+enter_all-requires-clause-count c =
     let numbered = c.in_ok-lefts.ensures in
     let wide = rw (← c.self.view_is) at c.requires.wide in
     let counts = counts_found c.self.inside.roots c.self.inside.left c.self.inside.right c.number_both.new.left c.number_both.new.right c.args.expansions.now c.in_ok-lefts.lefts.items c.in_ok-lefts.rights.items wide numbered.lefts numbered.rights in
@@ -27,17 +27,17 @@ enter_all-requires-clause-count g c =
     rw (c.as_slice-3.ensures.value, c.as_slice-4.ensures.value) (omega (arith, paired.count, counts, c.in_ok-origins.ensures.paired))
 
 pub invariant_of-self : goal.invariant_of-self
-invariant_of-self g c =
+invariant_of-self c =
     let numbered = c.number_both.ensures in
     IsStored-held c.self.inside.roots c.self.inside.left c.self.inside.right c.number_both.new.left c.number_both.new.right c.self.invariant numbered.held_left numbered.held_right numbered.left numbered.right
 
 pub invariant_of-self-in_err-pairs : goal.invariant_of-self-in_err-pairs
-invariant_of-self-in_err-pairs g c =
+invariant_of-self-in_err-pairs c =
     let numbered = c.number_both.ensures in
     IsStored-held c.self.inside.roots c.self.inside.left c.self.inside.right c.number_both.new.left c.number_both.new.right c.self.invariant numbered.held_left numbered.held_right numbered.left numbered.right
 
 pub invariant_of-self-2 : goal.invariant_of-self-2
-invariant_of-self-2 g c =
+invariant_of-self-2 c =
     let numbered = c.in_ok-lefts.ensures in
     let wide = rw (← c.self.view_is) at c.requires.wide in
     let paired = rw (c.as_slice.ensures.value, c.as_slice-2.ensures.value) at c.in_ok-pairs.ensures in
@@ -46,7 +46,7 @@ invariant_of-self-2 g c =
     c.self.invariant numbered.held_left numbered.held_right numbered.left numbered.right wide numbered.lefts numbered.rights paired kept).0
 
 pub returns : goal.returns
-returns g c =
+returns c =
     let numbered = c.in_ok-lefts.ensures in
     let wide = rw (← c.self.view_is) at c.requires.wide in
     let paired = rw (c.as_slice.ensures.value, c.as_slice-2.ensures.value) at c.in_ok-pairs.ensures in
@@ -55,4 +55,4 @@ returns g c =
     c.self.invariant numbered.held_left numbered.held_right numbered.left numbered.right wide numbered.lefts numbered.rights paired kept).1
 
 pub enter_all-requires-clause-paired : goal.enter_all-requires-clause-paired
-enter_all-requires-clause-paired g c = grind (arith, common_steps)
+enter_all-requires-clause-paired c = grind (arith, common_steps)

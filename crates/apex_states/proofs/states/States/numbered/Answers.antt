@@ -1,10 +1,6 @@
 -- The numbers of the halves on either side.
-use Rattle.std.proofs.Common.{◌≡◌, ◌∙◌, ap, sym, subst, length, ℕ, List}
-use Rattle.apex_states.specs.declared.halves.Half.{Half}
-use Rattle.apex_states.specs.declared.halves.Side.{Side}
-use Rattle.apex_states.specs.Finds.{found_of}
-use Rattle.apex_states.specs.Keeping.{AreNumbered}
-use Rattle.apex_states.specs.States.{seen, IsSided, Reached}
+use Rattle.std.proofs.Common.{◌∙◌, sym, subst, length}
+use Rattle.apex_states.specs.States.{IsSided}
 use Rattle.apex_states.proofs.Numbering.{numbered_left, numbered_right}
 use Rattle.apex_states.proofs.states.States.numbered.Goals as goal
 use Rattle.apex_states.proofs.states.States.numbered.Goals.{in-Left, in-Right}
