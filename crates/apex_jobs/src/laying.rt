@@ -27,6 +27,16 @@ pub(crate) fn size_for(states: usize, desks: usize) -> usize
     (states / desks).saturating_add(1)
 }
 
+/// A number of states for each desk but the last one, so that the desks have room for all. The last one has
+/// about two thirds as many, since its thread begins behind the one that keeps what was found.
+fn size_beside(states: usize, desks: usize) -> usize
+    requires { 0 < desks }
+    ensures { states ≤ result * desks }
+{
+    let thirds = desks.saturating_mul(3) - 1;
+    (states / thirds).saturating_add(1).saturating_mul(3)
+}
+
 /// Fails if there was no memory for the states of a desk.
 pub(crate) fn all_laid<W: Drop>(desks: &[Desk<W>]) -> Result<(), AllocError>
     ensures { IfOk result (λ _. AllAre IsLaid desks.now) }
@@ -38,8 +48,8 @@ pub(crate) fn all_laid<W: Drop>(desks: &[Desk<W>]) -> Result<(), AllocError>
 }
 
 /// Lays out copies of the states from the place `from` on and before `limit` on the desks, about the same
-/// number on each. A thread copies those of each desk, if one can be made for it, and the caller waits.
-/// Fails only for want of memory.
+/// number on each but the last one. A thread copies those of each desk, if one can be made for it, and the
+/// caller waits. Fails only for want of memory.
 pub(crate) fn lay_out_all<R: Threads + Sync, W: Drop + Send, S: System<Workspace = W>>(
     rt: &R,
     alloc: Global,
@@ -63,7 +73,7 @@ pub(crate) fn lay_out_all<R: Threads + Sync, W: Drop + Send, S: System<Workspace
 {
     let _ = states.len();
     let count = desks.len();
-    let size = size_for(limit - from, count);
+    let size = size_beside(limit - from, count);
     let lay_out = |place: usize, desk: &mut Desk<W>|
         requires { (place + 1 < 2 ^ 64) × (from ≤ limit) × (limit ≤ length states.now.states)
             × (desk.now.batch.width ≡ states.now.width) }
