@@ -5,7 +5,7 @@ DESTDIR ?=
 VERSION := $(shell cat VERSION)
 ROOT := $(DESTDIR)$(PREFIX)
 
-all: ## build the program, not proved, unless there is a proved one (a minute or two)
+all: ## build the program, not proved, unless there is a proved one (a few minutes)
 	tools/program apex
 
 test: ## run all cases and tests, not proved

@@ -21,6 +21,8 @@ def built(name):
 def programs(*names):
     """The programs that the arguments name, in this order; in place of one that is absent, that of the gate."""
     given = sys.argv[1:]
+    if len(given) > len(names):
+        sys.exit(f"{script()}: usage: {script()} {' '.join(f'[{it.upper()}]' for it in names)}")
     found = [os.path.abspath(it) for it in given[: len(names)]]
     found += [built(name) for name in names[len(found) :]]
     for it in found:
@@ -71,10 +73,16 @@ def write(path, text):
     return path
 
 
+def state_of(process):
+    """The letter of a process's state: S if it waits, Z if it has ended."""
+    with open(f"/proc/{process}/stat", encoding="ascii") as said:
+        return said.read().rsplit(")", 1)[1].split()[0]
+
+
 def peak_of(process):
-    """The most memory that a process has had so far, in bytes."""
+    """The most memory that a process has had so far, in bytes; 0 if it has ended."""
     with open(f"/proc/{process}/status", encoding="ascii") as said:
-        return next(1024 * int(line.split()[1]) for line in said if line.startswith("VmHWM:"))
+        return next((1024 * int(line.split()[1]) for line in said if line.startswith("VmHWM:")), 0)
 
 
 def process(name, priority, core, starts, script, loops=False):

@@ -46,8 +46,8 @@ class ProgramEnded(ApexError):
 
 
 class CommandRefused(ApexError):
-    """A command was not carried out, and nothing changed: `no command`, `no such core`, `no such mark`
-    or `line too long`."""
+    """A command was not carried out, and nothing changed. The message has the reason: `no command`,
+    `no such core`, `no such mark`, `line too long`, or `a command is one line`."""
 
 
 class HistoryFull(ApexError):
@@ -248,13 +248,14 @@ class Session:
     """
 
     def __init__(self, table: Union[str, bytes, Path], program: Optional[str] = None):
+        text = _text_of(table)
         self._process = subprocess.Popen(
             [program or _program(), "step", "--json"],
             stdin=subprocess.PIPE, stdout=subprocess.PIPE, stderr=subprocess.PIPE)
         try:
-            self._send(_text_of(table) + b"\n" + SEPARATOR)
+            self._send(text + b"\n" + SEPARATOR)
             self.front()
-        except ApexError:
+        except BaseException:
             self.close()
             raise
 

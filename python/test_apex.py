@@ -171,6 +171,12 @@ def test_a_table_may_be_a_file(tmp_path):
         assert session.front().entries == 0
 
 
+def test_a_file_that_cannot_be_read_starts_no_program(tmp_path, monkeypatch):
+    monkeypatch.setenv(apex.PROGRAM_VARIABLE, "/nonexistent")
+    with pytest.raises(FileNotFoundError, match="missing.toml"):
+        apex.Session(tmp_path / "missing.toml")
+
+
 def test_a_reason_names_the_step_and_what_the_caller_waits_for():
     schedule = f"0*{INIT_TURNS + 1}"
     assert apex.why(TABLE, schedule, INIT_TURNS + 1) == (

@@ -49,6 +49,8 @@ def commands_of(text: str) -> tuple[list[Command], list[str]]:
     while at < len(lines):
         begin = at
         if lines[at].startswith("```"):
+            if "```" not in lines[at + 1 :]:
+                return found, [*faults, f"{begin + 1}: the block has no end"]
             at = lines.index("```", at + 1) + 1
             if lines[begin] == "```" and not found:
                 faults.append(f"{begin + 1}: a block of output has no command")

@@ -7,7 +7,7 @@ HOME = pathlib.Path(__file__).resolve().parent.parent
 DATA = "crates/apex_cases/data"
 SECOND = "apex_lab"
 COMMANDS = {"schedule": "replay", "listing": "status"}
-SILENT = "status given return cut word unfetched gives room mute reads writes cuts changes verdict lines stands".split()
+SILENT = "status given return cut unfetched gives room mute reads writes cuts changes verdict lines contains".split()
 
 
 def crates() -> dict[str, list[str]]:
@@ -28,24 +28,22 @@ def program_of(name: str) -> str:
     return subprocess.run([HOME / "tools/program", name], stdout=subprocess.PIPE, text=True, check=True).stdout.strip()
 
 
-def cases() -> dict[tuple[str, tuple, tuple | str], list[str]]:
-    """The lines that each case expects, by its example, its edits, and its command with the schedule."""
+def cases() -> dict[tuple[str, tuple, tuple], list[str]]:
+    """The lines that each case of a replay or a listing expects, by its example, its edits, and its command with the schedule."""
     expected = {}
     for file in sorted((HOME / DATA).glob("*.cases")):
         for part in file.read_text().split("\ncase ")[1:]:
-            edits, schedule, lines, is_wrong = [], "", [], False
+            edits, schedule, lines, is_wrong = [], None, [], False
             for line in part.splitlines()[1:]:
                 word, _, rest = line.partition(" ")
                 if word == "edit":
                     edits.append(tuple(rest.split(" -> ", 1)))
                 elif word in COMMANDS:
                     schedule = COMMANDS[word], rest
-                elif word == "words":
-                    schedule = word, rest
                 elif line == "differs":
                     is_wrong = True
                 elif word not in SILENT and line and not line.startswith("#"):
                     lines.append(line)
-            if not is_wrong:
+            if schedule and not is_wrong:
                 expected[file.stem, tuple(edits), schedule] = lines
     return expected

@@ -75,4 +75,4 @@ def report():
         faults += found
         said.append(f"{name}: {commands} commands, {blocks} blocks of output, {quoted} quoted lines")
     found, commands = faults_of_heads(expected)
-    return [*said, f"{DATA}: {commands} commands, {len(expected)} cases"], faults + found
+    return [*said, f"{DATA}: {commands} commands, {len(expected)} replays and listings with their outputs"], faults + found
