@@ -1,4 +1,4 @@
-"""What the scripts of this folder share: the repository's places, its crates, and the cases of the examples."""
+"""What the scripts of this folder share: the repository's places, its crates, limits and cases, schedules, and runs of a program."""
 import pathlib
 import re
 import subprocess
@@ -26,6 +26,28 @@ def root_of(crate: str) -> pathlib.Path:
 def program_of(name: str) -> str:
     """The path of the program of this name that `./apex` would run, which is built if there is none."""
     return subprocess.run([HOME / "tools/program", name], stdout=subprocess.PIPE, text=True, check=True).stdout.strip()
+
+
+def limits() -> dict[str, int]:
+    """The limits that are plain numbers, by their names."""
+    text = (HOME / "crates/apex_types/src/limits.rt").read_text()
+    found = re.findall(r"pub const (\w+): \w+ = (u32::MAX|[\d_]+);", text)
+    return {name: 2**32 - 1 if digits == "u32::MAX" else int(digits) for name, digits in found}
+
+
+def events(schedule: str) -> list[str]:
+    """The events of a schedule without groups, one item each."""
+    found = []
+    for item in schedule.split():
+        event, star, times = item.partition("*")
+        found += [event] * int(times) if star else [item]
+    return found
+
+
+def outcome(words: list, given: bytes) -> tuple[int, str]:
+    """The status of a program over this input, and what it wrote."""
+    done = subprocess.run(words, input=given, capture_output=True, check=False)
+    return done.returncode, done.stdout.decode(errors="replace")
 
 
 def cases() -> dict[tuple[str, tuple, tuple], list[str]]:

@@ -8,22 +8,19 @@ with a line of its word, so that exchanged services are seen.
 """
 import re
 
-from common import DATA, HOME
+from common import DATA, HOME, limits
 
 CATALOGUE = "crates/apex_calls/src/catalogue.rt"
 FORMATS = "docs/FORMATS.md"
-LIMITS = "crates/apex_types/src/limits.rt"
 ROW = re.compile(r'    \w+ "(\w+)" \[(.*)\] (true|false);')
 SHAPE = re.compile(r"(\w+)(?:\(([^)]*)\))?")
-LIMIT = re.compile(r"pub const (\w+): u32 = ([\d_]+|u32::MAX);")
 LETTERS = {"Entry": "N", "Named": "A", "Timeout": "T", "Message": "X", "Mode": "M"}
 
 
 def number(text):
     """The number that a row writes, by its digits or by the name of a limit."""
-    limits = dict(LIMIT.findall((HOME / LIMITS).read_text()))
-    digits = limits.get(text, text)
-    return 2**32 - 1 if digits == "u32::MAX" else int(digits)
+    named = limits()
+    return named[text] if text in named else int(text)
 
 
 def rows():
