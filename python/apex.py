@@ -14,6 +14,7 @@ docs/FORMATS.md describes commands, calls, replies and states; this module only 
 
 import json
 import os
+import re
 import shutil
 import subprocess
 from dataclasses import dataclass
@@ -28,6 +29,7 @@ __all__ = [
 
 PROGRAM_VARIABLE = "APEX_LAB"
 SEPARATOR = b"%%\n"
+SCHEDULE = re.compile(r"[0-9t()* ]+")
 
 
 class ApexError(Exception):
@@ -248,12 +250,12 @@ class Session:
     """
 
     def __init__(self, table: Union[str, bytes, Path], program: Optional[str] = None):
-        text = _text_of(table)
+        text = _before_the_rest(table)
         self._process = subprocess.Popen(
             [program or _program(), "step", "--json"],
             stdin=subprocess.PIPE, stdout=subprocess.PIPE, stderr=subprocess.PIPE)
         try:
-            self._send(text + b"\n" + SEPARATOR)
+            self._send(text)
             self.front()
         except BaseException:
             self.close()
@@ -279,6 +281,8 @@ class Session:
 
     def run(self, schedule: str) -> list[Entry]:
         """Makes the events of a schedule, such as ``0*5 1 t10``; `HistoryFull` if not all fit."""
+        if not SCHEDULE.fullmatch(schedule):
+            raise CommandRefused("no command")
         return [_entry(line) for line in self._ask(schedule)]
 
     def state(self) -> State:
@@ -323,7 +327,7 @@ class Session:
         """The lines of the answer but the last one, which closes it."""
         if "\n" in command:
             raise CommandRefused("a command is one line")
-        self._send(command.encode() + b"\n")
+        self._send(command.encode(errors="surrogateescape") + b"\n")
         lines = []
         for line in self._lines():
             if "fault" in line:
@@ -354,8 +358,8 @@ def why(table: Union[str, bytes, Path], schedule: str, entry: int,
     `ProgramEnded` if the table or the schedule is refused, or the run has no such entry.
     """
     ended = subprocess.run(
-        [program or _program(), "why", "--entry", str(entry), "--schedule", schedule],
-        input=_text_of(table), stdout=subprocess.PIPE, stderr=subprocess.PIPE, check=False)
+        [program or _program(), "why", "--entry", str(entry), "--schedule", "-"],
+        input=_before_the_rest(table) + schedule.encode() + b"\n", stdout=subprocess.PIPE, stderr=subprocess.PIPE, check=False)
     if ended.returncode != 0:
         raise ProgramEnded(ended.returncode, ended.stderr.decode(errors="replace").strip())
     return ended.stdout.decode().rstrip("\n")
@@ -372,6 +376,14 @@ def _text_of(table: Union[str, bytes, Path]) -> bytes:
     if isinstance(table, Path):
         return table.read_bytes()
     return table.encode() if isinstance(table, str) else table
+
+
+def _before_the_rest(table: Union[str, bytes, Path]) -> bytes:
+    """The table with the separator; `ApexError` if a line of the table is the separator."""
+    text = _text_of(table) + b"\n"
+    if b"\n" + SEPARATOR in b"\n" + text:
+        raise ApexError("a line of the table is %%")
+    return text + SEPARATOR
 
 
 def _of_name(things: tuple[Any, ...], name: str) -> Any:

@@ -186,6 +186,21 @@ def test_a_reason_names_the_step_and_what_the_caller_waits_for():
     assert ended.value.status == 2
 
 
+def test_a_long_schedule_needs_no_argument():
+    assert apex.why(TABLE, "0*1 " * 40_000 + "0", 1) == "init step 0: no guard of the service holds"
+
+
+def test_a_run_takes_schedules_alone(session):
+    for command in ("state", "mark here", "quit", ""):
+        with pytest.raises(apex.CommandRefused, match="no command"):
+            session.run(command)
+
+
+def test_a_table_has_no_separator():
+    with pytest.raises(apex.ApexError, match="%%"):
+        apex.Session(TABLE + "%%\n")
+
+
 def test_a_closed_session_answers_nothing():
     session = apex.Session(TABLE)
     session.close()

@@ -7,7 +7,7 @@ _apex() {
         replay:* | status:*) words='--schedule' ;;
         run:*) words='--turns --ticks --front' ;;
         lab:*:search | picture:*:search) words='--for --worst --process --service --turns --early --states --jobs' ;;
-        lab:*:lint | picture:*:lint) words='--json --name --allow' ;;
+        lint:* | lab:*:lint | picture:*:lint) words='--json --name --allow' ;;
         lab:*:step | picture:*:step) words='--json' ;;
         lab:*:check | picture:*:check) words='--json --comments' ;;
         lab:*:why | picture:*:why) words='--entry --schedule --schedule-file --until --turns --early' ;;
@@ -17,7 +17,7 @@ _apex() {
         --for) words='missed hard TIMED_OUT LOST end standstill NO_ACTION NOT_AVAILABLE INVALID_PARAM INVALID_CONFIG INVALID_MODE' ;;
         --schedule | --turns | --ticks | --until | --early | --from | --to | --process | --service | --worst | --states | --jobs | --allow | --entry | --only | --tick-us) return ;;
         --by) words='entries time' ;;
-        --schedule-file) words='' ;;
+        --schedule-file | --name) words='' ;;
     esac
     mapfile -t COMPREPLY < <(compgen -W "${words:-}" -- "$word"; compgen -f -- "$word")
 }
