@@ -1,5 +1,5 @@
 -- Lists whose items are changed, the first one and those behind it.
-use Rattle.std.proofs.Common.{◌≡◌, ℕ, zero, suc, ◌+◌, ◌<◌, List, [], ◌∷◌, length, get_or, Some, refl, sym, ◌∙◌, subst, arith}
+use Rattle.std.proofs.Common.{◌≡◌, ℕ, zero, suc, ◌+◌, ◌<◌, List, ◌∷◌, length, get_or, Some, refl, sym, ◌∙◌, subst, arith}
 use Rattle.std.proofs.lemmas.Option.{same_Some, slice_get-get_or, slice_get_within}
 use Rattle.std.specs.List.{slice_get}
 use Rattle.apex_jobs.specs.Items.{AreChangedFrom, IsEachFrom}
@@ -9,9 +9,6 @@ IsEachFrom-head P first x xs each = subst (λ n. P n x) {x = first + 0} (omega a
 
 pub IsEachFrom-tail : {X : Type 0} (P : ℕ → X → Type 0) (first : ℕ) (x : X) (xs : List X) → IsEachFrom P first (x ∷ xs) → IsEachFrom P (first + 1) xs
 IsEachFrom-tail P first x xs each at item is = subst (λ n. P n item) {x = first + suc at} (omega arith) (each (suc at) item is)
-
-pub AreChangedFrom-none : {X : Type 0} (R : ℕ → X → X → Type 0) (first : ℕ) → AreChangedFrom R first [] []
-AreChangedFrom-none R first = record { count = refl; each = λ at item is. cc }
 
 pub AreChangedFrom-more : {X : Type 0} (R : ℕ → X → X → Type 0) (first : ℕ) (x y : X) (xs ys : List X) → R first x y → AreChangedFrom R (first + 1) xs ys → AreChangedFrom R first (x ∷ xs) (y ∷ ys)
 AreChangedFrom-more R first x y xs ys one rest = record { count = omega (arith, rest.count); each = each }

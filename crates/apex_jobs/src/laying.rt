@@ -28,7 +28,7 @@ pub(crate) fn size_for(states: usize, desks: usize) -> usize
 }
 
 /// A number of states for each desk but the last one, so that the desks have room for all. The last one has
-/// about two thirds as many, since its thread begins behind the one that keeps what was found.
+/// about two thirds as many, since its thread may share a processor with the one that keeps what was found.
 fn size_beside(states: usize, desks: usize) -> usize
     requires { 0 < desks }
     ensures { states ≤ result * desks }
