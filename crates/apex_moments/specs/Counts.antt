@@ -3,7 +3,7 @@ use Rattle.std.specs.Prelude.{◌≡◌, ℕ, Bool, List, [], length, Option, is
 use Rattle.apex_machine.specs.services.BlackboardServices.{blackboard_kind}
 use Rattle.apex_machine.specs.services.BufferServices.{buffer_kind}
 use Rattle.apex_machine.specs.services.EventFlagServices.{event_flag_kind}
-use Rattle.apex_machine.specs.services.SemaphoreServices.{semaphore_kind}
+use Rattle.apex_machine.specs.services.SemaphoreServices.{SemaphoreObject, semaphore_kind}
 use Rattle.apex_machine.specs.text.Listing.{object_in}
 use Rattle.apex_machine.specs.Deeds.{Objects}
 use Rattle.apex_machine.specs.Machine.{objects_after}
@@ -19,9 +19,13 @@ use Rattle.apex_moments.specs.declared.kinds.Kind.TheVariants.{Semaphore, Buffer
 abbrev pub one_if : Bool → ℕ
 one_if holds = if holds then 1 else 0
 
--- the value of semaphore s
+-- the value of a semaphore, and 0 before it is created
+abbrev pub created_value : SemaphoreObject → ℕ
+created_value semaphore = if semaphore.created then semaphore.value else 0
+
+-- the value of semaphore s, and 0 before it is created
 abbrev pub value_of : Objects → ℕ → ℕ
-value_of objects s = (object_in semaphore_kind objects.semaphores s).value
+value_of objects s = created_value (object_in semaphore_kind objects.semaphores s)
 
 -- the number of messages in buffer b
 abbrev pub content_of : Objects → ℕ → ℕ

@@ -5,12 +5,13 @@ ghost use Rattle.apex_moments.specs.Counts.{content_of, count_of, displayed_on, 
 
 use apex_configs::Table;
 use apex_services::Objects;
+use apex_store::Object;
 use apex_types::{BlackboardId, BufferId, EventId, SemaphoreId};
 
 /// A kind of objects that have a count.
 #[derive(Clone, Copy)]
 pub enum Kind {
-    /// Its count is the value.
+    /// Its count is the value, and 0 before it is created.
     Semaphore,
     /// Its count is the number of messages.
     Buffer,
@@ -20,13 +21,19 @@ pub enum Kind {
     EventFlag,
 }
 
-/// The value of a semaphore; 0 if there is no such semaphore.
+/// The value of a semaphore; 0 if there is no such semaphore, or if it is not created.
 #[inline(always)]
 pub fn value_of(objects: &Objects, semaphore: SemaphoreId) -> u64
     ensures { result ≡ value_of objects.now semaphore }
 {
     match objects.semaphores.get(semaphore.place()) {
-        Some(semaphore) => u64::from(semaphore.value()),
+        Some(semaphore) => {
+            if semaphore.is_created() {
+                u64::from(semaphore.value())
+            } else {
+                0
+            }
+        }
         None => 0,
     }
 }
