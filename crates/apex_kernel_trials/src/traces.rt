@@ -36,12 +36,13 @@ discipline = "FIFO"
 /// By this a line of the trace is one of a counter.
 const COUNTER: &str = "\"ph\":\"C\"";
 
-/// What follows that in each of these lines. Before the first entry the semaphore has its initial
-/// value, and the buffer is empty. The signal is entry 7, and the send entry 8; seven and eight
-/// moments of time 0 come before the moments after them.
-const COUNTERS: [&str; 4] = [
-    r#","pid":3,"ts":0,"name":"semaphore S","args":{"value":1}},"#,
+/// What follows that in each of these lines. Before the first entry neither object is created. Entry 1
+/// creates the semaphore, with its initial value. The signal is entry 7, and the send entry 8; one, seven
+/// and eight moments of time 0 come before the moments after them.
+const COUNTERS: [&str; 5] = [
+    r#","pid":3,"ts":0,"name":"semaphore S","args":{"value":0}},"#,
     r#","pid":3,"ts":0,"name":"buffer B","args":{"messages":0}},"#,
+    r#","pid":3,"ts":1,"name":"semaphore S","args":{"value":1}},"#,
     r#","pid":3,"ts":7,"name":"semaphore S","args":{"value":2}},"#,
     r#","pid":3,"ts":8,"name":"buffer B","args":{"messages":1}},"#,
 ];
