@@ -101,7 +101,7 @@ const DOUBTS: [&str; 14] = [
     "process 2: no step starts it, so it stays dormant",
     "process 3: its time capacity is longer than its period, so its next release comes first",
     "process 4: it is periodic and loops without PERIODIC_WAIT, so only a start releases it",
-    "process 5: the work of a job has more units than its period or its time capacity has ticks",
+    "process 5: the work of a job has no fewer units than its period or its time capacity has ticks",
     "process 6 step 3: the message is empty or too long, so the answer is INVALID_PARAM",
     "process 6 step 1: the process is aperiodic, so the answer is INVALID_MODE",
     "process 6 step 2: a periodic process cannot be suspended, so the call is refused",
@@ -113,7 +113,7 @@ const DOUBTS: [&str; 14] = [
     "core 1: the init list binds no process to it",
 ];
 
-/// A table without a warning.
+/// A table without a warning. REPLENISH moves the deadline behind the end of the work.
 const PLAIN: &str = r#"
 cores = 1
 
@@ -121,10 +121,10 @@ cores = 1
 name = "PRODUCER"
 priority = 10
 period = 10
-capacity = 10
+capacity = 5
 loop = true
 start = true
-script = ["SEND_BUFFER B 2a 0", "work 10", "PERIODIC_WAIT"]
+script = ["SEND_BUFFER B 2a 0", "REPLENISH 9", "work 9", "PERIODIC_WAIT"]
 
 [[process]]
 name = "CONSUMER"

@@ -9,7 +9,7 @@ use Rattle.apex_types.specs.declared.calls.EventFlagService.TheVariants.{Set}
 use Rattle.apex_types.specs.declared.calls.ObjectCall.TheVariants.{Create, GetId, GetStatus, KindService}
 use Rattle.apex_types.specs.declared.calls.ProcessService.TheVariants.{InitializeCoreAffinity, SetPriority, Start, DelayedStart}
 use Rattle.apex_types.specs.declared.calls.SemaphoreService.TheVariants.{Signal}
-use Rattle.apex_types.specs.declared.calls.TimeCall.TheVariants.{PeriodicWait}
+use Rattle.apex_types.specs.declared.calls.TimeCall.TheVariants.{PeriodicWait, Replenish}
 use Rattle.apex_types.specs.Calls.{known}
 use Rattle.apex_machine.specs.declared.records.Queue.TheVariants as queues
 use Rattle.apex_machine.specs.processes.Queues.{is_queue}
@@ -83,6 +83,11 @@ abbrev pub waits_for_period : Call → Bool
 waits_for_period (Time PeriodicWait) = true
 waits_for_period _ = false
 
+-- the call is REPLENISH, which moves the deadline of a job
+abbrev pub moves_deadline : Call → Bool
+moves_deadline (Time (Replenish budget)) = true
+moves_deadline _ = false
+
 -- the call is such an act
 abbrev pub does : Act → Call → Bool
 does (act.Start p) call = starts p call
@@ -95,3 +100,4 @@ does (act.Send b length) call = sends b length call
 does (act.Display b length) call = displays b length call
 does (act.Set e) call = sets e call
 does act.WaitForPeriod call = waits_for_period call
+does act.MoveDeadline call = moves_deadline call

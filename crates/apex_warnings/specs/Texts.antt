@@ -17,7 +17,7 @@ process_reason CapacityAbovePeriod =
 process_reason NoPeriodicWait =
     codes "it is periodic and loops without PERIODIC_WAIT, so only a start releases it"
 process_reason MuchWork =
-    codes "the work of a job has more units than its period or its time capacity has ticks"
+    codes "the work of a job has no fewer units than its period or its time capacity has ticks"
 
 -- why a step is warned of
 abbrev pub step_reason : StepWarning → List ℕ

@@ -1,7 +1,7 @@
 //! What a step does, as far as a warning asks for it.
 ghost use Rattle.std.specs.Prelude.{◌≡◌};
 ghost use Rattle.std.specs.List.{list_any};
-ghost use Rattle.apex_warnings.specs.Acts.{binds_away, binds_to, displays, does, lowers, queue_used, sends, sets, signals, starts, is_taken, used, waits_for_period};
+ghost use Rattle.apex_warnings.specs.Acts.{binds_away, binds_to, displays, does, lowers, moves_deadline, queue_used, sends, sets, signals, starts, is_taken, used, waits_for_period};
 
 use crate::steps::StepCall;
 use apex_machine::Queue;
@@ -34,6 +34,8 @@ pub enum Act {
     Set(EventId),
     /// It is PERIODIC_WAIT.
     WaitForPeriod,
+    /// It is REPLENISH, which moves the deadline of a job.
+    MoveDeadline,
 }
 
 impl Act {
@@ -52,6 +54,7 @@ impl Act {
             Act::Display(blackboard, length) => displays(*blackboard, *length, call),
             Act::Set(event_flag) => sets(*event_flag, call),
             Act::WaitForPeriod => waits_for_period(call),
+            Act::MoveDeadline => moves_deadline(call),
         }
     }
 
@@ -185,6 +188,15 @@ fn waits_for_period(call: Call) -> bool
 {
     match call {
         Call::Time(TimeCall::PeriodicWait) => true,
+        _ => false,
+    }
+}
+
+fn moves_deadline(call: Call) -> bool
+    ensures { result ≡ moves_deadline call }
+{
+    match call {
+        Call::Time(TimeCall::Replenish(_)) => true,
         _ => false,
     }
 }

@@ -1,7 +1,7 @@
 //! The warnings about a process.
 ghost use Rattle.std.specs.Prelude.{◌≡◌, ◌<◌, ◌≤◌, length};
 ghost use Rattle.apex_types.specs.declared.limits.TheConstants.{MOST_SPAN};
-ghost use Rattle.apex_warnings.specs.Jobs.{done_after, has_much_work, is_above, job_limit, work_exceeds};
+ghost use Rattle.apex_warnings.specs.Jobs.{done_after, fixed_capacity, has_much_work, is_above, job_limit, work_fills};
 ghost use Rattle.apex_warnings.specs.ProcessWarnings.{process_warned};
 
 use crate::acts::Act;
@@ -20,8 +20,8 @@ pub enum ProcessWarning {
     CapacityAbovePeriod,
     /// It is periodic, and its script loops without PERIODIC_WAIT.
     NoPeriodicWait,
-    /// It is periodic, and the work of a job has more units than its period or its time capacity
-    /// has ticks.
+    /// It is periodic, and the work of a job has no fewer units than its period or its time capacity
+    /// has ticks. The time capacity does not count if the script has REPLENISH.
     MuchWork,
 }
 
@@ -58,26 +58,40 @@ fn done_after(done: u64, call: &StepCall) -> u64
     }
 }
 
-/// The units of work between two PERIODIC_WAITs come above the limit.
-fn work_exceeds(limit: u32, calls: &[StepCall]) -> bool
-    ensures { result ≡ work_exceeds limit 0 calls.now }
+/// The units of work between two PERIODIC_WAITs come to the limit or above it.
+fn work_fills(limit: u32, calls: &[StepCall]) -> bool
+    ensures { result ≡ work_fills limit 0 calls.now }
 {
     let mut done: u64 = 0;
     for call in calls {
         done = done_after(done, call);
-        if done > u64::from(limit) {
+        if done >= u64::from(limit) {
             return true;
         }
     }
     false
 }
 
-/// The process is periodic, and the work of a job exceeds the job's ticks.
+/// The time capacity by which the jobs of these calls have to end.
+fn fixed_capacity(capacity: Option<Span>, calls: &[StepCall]) -> Option<Span>
+    ensures { result ≡ fixed_capacity capacity calls.now }
+{
+    if Act::MoveDeadline.is_among(calls) {
+        None
+    } else {
+        capacity
+    }
+}
+
+/// The process is periodic, and the work of a job takes all of the job's ticks.
 fn has_much_work(attributes: Attributes, calls: &[StepCall]) -> bool
     ensures { result ≡ has_much_work attributes calls.now }
 {
     match attributes.period {
-        Some(period) => work_exceeds(job_limit(period, attributes.capacity), calls),
+        Some(period) => {
+            let capacity = fixed_capacity(attributes.capacity, calls);
+            work_fills(job_limit(period, capacity), calls)
+        }
         None => false,
     }
 }

@@ -24,7 +24,7 @@ impl ProcessWarning {
                 "it is periodic and loops without PERIODIC_WAIT, so only a start releases it"
             }
             ProcessWarning::MuchWork => {
-                "the work of a job has more units than its period or its time capacity has ticks"
+                "the work of a job has no fewer units than its period or its time capacity has ticks"
             }
         }
     }
