@@ -34,13 +34,30 @@ fn near<'w>(alloc: Global, word: &str, words: &[&'w str]) -> Result<Option<&'w s
     nearest(alloc, word, words)
 }
 
+/// The word that is nearest to this one, or else to this one in capitals, or else in small letters.
+fn near_in_any_case<'w>(
+    alloc: Global,
+    word: &str,
+    words: &[&'w str],
+) -> Result<Option<&'w str>, AllocError> {
+    if let Some(meant) = near(alloc, word, words)? {
+        return Ok(Some(meant));
+    }
+    let capitals = word.to_ascii_uppercase(alloc)?;
+    if let Some(meant) = near(alloc, capitals.as_str(), words)? {
+        return Ok(Some(meant));
+    }
+    let small = word.to_ascii_lowercase(alloc)?;
+    near(alloc, small.as_str(), words)
+}
+
 /// Puts the offer of the nearest one of these words, or of all of them if none is near.
 pub fn put_offer(text: &mut Wording, word: &str, words: &[&str]) {
     if words.is_empty() {
         text.put("; there is none");
         return;
     }
-    match near(text.alloc(), word, words) {
+    match near_in_any_case(text.alloc(), word, words) {
         Ok(Some(meant)) => put_question(text, meant),
         Ok(None) => {
             text.put("; there is ");
@@ -72,23 +89,10 @@ fn service_words(alloc: Global) -> Result<Vec<&'static str>, AllocError> {
     CATALOGUE.iter().map(|row| row.word).collect(alloc)
 }
 
-/// The word that is nearest to this one, or else to this one in capitals.
-fn near_in_capitals<'w>(
-    alloc: Global,
-    word: &str,
-    words: &[&'w str],
-) -> Result<Option<&'w str>, AllocError> {
-    if let Some(meant) = near(alloc, word, words)? {
-        return Ok(Some(meant));
-    }
-    let capitals = word.to_ascii_uppercase(alloc)?;
-    near(alloc, capitals.as_str(), words)
-}
-
 /// The service that is nearest to the word, if one is near.
 fn near_service(alloc: Global, word: &str) -> Result<Option<&'static str>, AllocError> {
     let words = service_words(alloc)?;
-    near_in_capitals(alloc, word, &words)
+    near_in_any_case(alloc, word, &words)
 }
 
 /// Puts that no service has this word, and which one is near to it.
