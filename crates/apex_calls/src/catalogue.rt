@@ -14,7 +14,7 @@ pub const MOST_WORD: usize = 32;
 /// The most words that a step has behind the word of its service.
 pub const MOST_SHAPES: usize = 3;
 
-/// A kind of things that steps name.
+/// A kind of things that steps name: the entries of one section of the table.
 #[derive(Clone, Copy)]
 pub enum Kind {
     Process,
@@ -34,13 +34,15 @@ pub enum Shape {
     Named(Kind),
     /// A number from the first one to the second one.
     Number(u32, u32),
+    /// `0`, a number of ticks up to 4,294,967,295, or `infinite`.
     Timeout,
+    /// `-`, or two digits for each of at most 64 bytes.
     Message,
     /// The mode that SET_PARTITION_MODE asks for.
     Mode,
 }
 
-/// A service, as a step asks for it.
+/// A service, as a step asks for it. [`CATALOGUE`] has a row for each, in this order.
 #[derive(Clone, Copy)]
 pub enum Service {
     SetPartitionMode,
@@ -96,6 +98,7 @@ pub enum Service {
 /// A service's row.
 #[derive(Clone, Copy)]
 pub struct Row {
+    /// The service that the row describes.
     pub service: Service,
     /// The service's word in a step.
     pub word: &'static str,

@@ -21,9 +21,13 @@ pub struct Arguments {
     pub named: Named<u8>,
     /// The entry, by its place, counted from 0.
     pub entry: u8,
+    /// The core, the priority, the ticks of a budget, or the units of work.
     pub number: u32,
+    /// The longest time to wait, or the delay of a start.
     pub timeout: Timeout,
+    /// The message that is sent or displayed.
     pub message: Message,
+    /// The mode that SET_PARTITION_MODE asks for.
     pub mode: RequestedMode,
 }
 

@@ -35,6 +35,7 @@ impl Model for ProcessConfig {
 }
 
 impl ProcessConfig {
+    /// The process of these parts. The default init list alone reads `core` and `starts`.
     pub fn new(
         name: Name,
         attributes: Attributes,
@@ -62,12 +63,14 @@ impl ProcessConfig {
         }
     }
 
+    /// The name by which steps ask for it.
     pub fn name(&self) -> &Name
         ensures { result.now ≡ self.now.name }
     {
         &self.name
     }
 
+    /// Its base priority, its period, its capacity and its type of deadline.
     pub fn attributes(&self) -> Attributes
         ensures { result ≡ self.now.attributes }
     {
@@ -142,6 +145,7 @@ impl Model for SemaphoreConfig {
 }
 
 impl SemaphoreConfig {
+    /// The semaphore with this greatest value, which is created with the initial one.
     pub fn new(name: Name, maximum: u16, initial: u16, discipline: Discipline) -> SemaphoreConfig
         ensures { result ≡ record {
           name = name;
@@ -158,6 +162,7 @@ impl SemaphoreConfig {
         }
     }
 
+    /// The name by which steps ask for it.
     pub fn name(&self) -> &Name
         ensures { result.now ≡ self.now.name }
     {
@@ -209,6 +214,7 @@ impl Model for BufferConfig {
 }
 
 impl BufferConfig {
+    /// The buffer that holds at most `capacity` messages, each of at most `length` bytes.
     pub fn new(name: Name, length: u8, capacity: u8, discipline: Discipline) -> BufferConfig
         ensures { result ≡ record {
           name = name;
@@ -225,6 +231,7 @@ impl BufferConfig {
         }
     }
 
+    /// The name by which steps ask for it.
     pub fn name(&self) -> &Name
         ensures { result.now ≡ self.now.name }
     {
@@ -269,12 +276,14 @@ impl Model for BlackboardConfig {
 }
 
 impl BlackboardConfig {
+    /// The blackboard whose message has at most `length` bytes.
     pub fn new(name: Name, length: u8) -> BlackboardConfig
         ensures { result ≡ record { name = name; length = length } }
     {
         BlackboardConfig { name, length }
     }
 
+    /// The name by which steps ask for it.
     pub fn name(&self) -> &Name
         ensures { result.now ≡ self.now.name }
     {
@@ -304,12 +313,14 @@ impl Model for EventFlagConfig {
 }
 
 impl EventFlagConfig {
+    /// The event flag of this name.
     pub fn new(name: Name) -> EventFlagConfig
         ensures { result ≡ record { name = name } }
     {
         EventFlagConfig { name }
     }
 
+    /// The name by which steps ask for it.
     pub fn name(&self) -> &Name
         ensures { result.now ≡ self.now.name }
     {
@@ -334,6 +345,7 @@ impl Model for MutexConfig {
 }
 
 impl MutexConfig {
+    /// The mutex that raises its owner to the priority `ceiling`.
     pub fn new(name: Name, ceiling: u8, discipline: Discipline) -> MutexConfig
         ensures { result ≡ record { name = name; ceiling = ceiling; discipline = discipline } }
     {
@@ -344,6 +356,7 @@ impl MutexConfig {
         }
     }
 
+    /// The name by which steps ask for it.
     pub fn name(&self) -> &Name
         ensures { result.now ≡ self.now.name }
     {

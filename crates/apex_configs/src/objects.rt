@@ -5,7 +5,7 @@ use crate::configs::{
 };
 use std::marker::Model;
 
-/// The objects of a table, kind by kind.
+/// The objects of a table, kind by kind, each kind in the order of its ids: at most 16 of each.
 #[derive(Drop)]
 pub struct Objects {
     pub semaphores: Vec<SemaphoreConfig>,

@@ -105,6 +105,7 @@ impl Table {
         self.limit
     }
 
+    /// The number of processes, 1 to 64.
     #[tactic(auto, using(apex_machine::proofs::BothProfiles::lawful_count))]
     pub fn process_count(&self) -> usize
         ensures value { result ≡ length self.now.processes }
@@ -122,6 +123,7 @@ impl Table {
         &self.processes[id.place()]
     }
 
+    /// The number of semaphores, at most 16.
     pub fn semaphore_count(&self) -> usize
         ensures value { result ≡ length self.now.semaphores }
         ensures range { result ≤ MOST_OBJECTS }
@@ -138,6 +140,7 @@ impl Table {
         &self.objects.semaphores[id.place()]
     }
 
+    /// The number of buffers, at most 16.
     pub fn buffer_count(&self) -> usize
         ensures value { result ≡ length self.now.buffers }
         ensures range { result ≤ MOST_OBJECTS }
@@ -154,6 +157,7 @@ impl Table {
         &self.objects.buffers[id.place()]
     }
 
+    /// The number of blackboards, at most 16.
     pub fn blackboard_count(&self) -> usize
         ensures value { result ≡ length self.now.blackboards }
         ensures range { result ≤ MOST_OBJECTS }
@@ -170,6 +174,7 @@ impl Table {
         &self.objects.blackboards[id.place()]
     }
 
+    /// The number of event flags, at most 16.
     pub fn event_flag_count(&self) -> usize
         ensures value { result ≡ length self.now.event_flags }
         ensures range { result ≤ MOST_OBJECTS }
@@ -186,6 +191,7 @@ impl Table {
         &self.objects.event_flags[id.place()]
     }
 
+    /// The number of mutexes, at most 16.
     pub fn mutex_count(&self) -> usize
         ensures value { result ≡ length self.now.mutexes }
         ensures range { result ≤ MOST_OBJECTS }

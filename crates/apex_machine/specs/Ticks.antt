@@ -25,11 +25,11 @@ tick_goal roster n = not_beyond (roster.now + n) (next_instant roster)
 abbrev pub released : Roster → ℕ → Changed
 released roster p = record { roster = release roster p; notices = Released p ∷ [] }
 
--- the start of process p begins after this delay: with a delay of 0 the process is released, with
--- its notice
+-- the notices of a start of process p after this delay: with a delay of 0 it is released
 abbrev pub begin_notices : ℕ → ℕ → List Notice
 begin_notices p delay = if delay == 0 then Released p ∷ [] else []
 
+-- the start of process p begins after this delay, with its notices
 abbrev pub begun : Roster → ℕ → ℕ → Changed
 begun roster p delay = record { roster = begin roster p delay; notices = begin_notices p delay }
 

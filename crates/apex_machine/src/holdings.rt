@@ -9,6 +9,7 @@ use std::marker::Model;
 /// A mutex that a process owns, with its ceiling and depth (this profile).
 #[derive(Clone, Copy, PartialEq, Eq)]
 pub struct Holding {
+    /// The mutex that is owned.
     pub mutex: MutexId,
     /// The priority to which the mutex raises its owner, 1 to 239.
     pub ceiling: u8,
@@ -124,6 +125,7 @@ impl Holdings {
         self.count += 1;
     }
 
+    /// The holdings, one for each mutex that is owned.
     pub fn as_slice(&self) -> &[Holding]
         ensures value { result.now ≡ self.now }
         ensures few_owned { length result.now ≤ MOST_OWNED }
@@ -131,12 +133,14 @@ impl Holdings {
         &self.places[..usize::from(self.count)]
     }
 
+    /// The number of mutexes that are owned.
     pub fn len(&self) -> usize
         ensures { result ≡ length self.now }
     {
         self.as_slice().len()
     }
 
+    /// No mutex is owned.
     pub fn is_empty(&self) -> bool
         ensures { result ≡ holds_none self.now }
     {

@@ -9,12 +9,14 @@ use apex_types::{MOST_OWNED, MOST_OWNED_IN_ONE, MOST_PROCESSES, MOST_PROCESSES_I
 /// profile).
 #[derive(Clone, Copy, PartialEq, Eq)]
 pub enum Profile {
+    /// At most 32 processes, and at most 1 mutex that a process owns at once.
     One,
+    /// At most 64 processes, and at most 4 mutexes that a process owns at once.
     Two,
 }
 
 impl Profile {
-    /// The profile of this number: 1, or 2.
+    /// The profile of this number: One of 1, and Two of any other. A table's number is 1 or 2.
     pub fn of(number: u32) -> Profile
         ensures { result ≡ profile_of number }
     {

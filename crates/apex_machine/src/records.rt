@@ -23,6 +23,7 @@ pub enum Wait {
     Time,
     /// Its next release, after a PERIODIC_WAIT.
     Period,
+    /// A signal of the semaphore.
     Semaphore(SemaphoreId),
     /// A message of the buffer.
     Receive(BufferId),
@@ -41,11 +42,15 @@ pub enum Wait {
 pub enum Queue {
     /// The processes that wait for the entry into NORMAL.
     Normal,
+    /// The processes that wait for a signal of the semaphore.
     Semaphore(SemaphoreId),
     /// Receivers, or senders.
     Buffer(BufferId),
+    /// Readers.
     Blackboard(BlackboardId),
+    /// The processes that wait until the event flag is up.
     EventFlag(EventId),
+    /// The processes that wait until the mutex is free.
     Mutex(MutexId),
 }
 
@@ -69,7 +74,9 @@ impl Wait {
 /// The suspender of a process.
 #[derive(Clone, Copy, PartialEq, Eq)]
 pub enum Suspender {
+    /// By SUSPEND_SELF: a RESUME ends the suspension, or the time that the call gave.
     Itself,
+    /// By SUSPEND, which another process called: a RESUME ends the suspension.
     Other,
 }
 
@@ -82,18 +89,24 @@ pub struct Attributes {
     pub period: Option<Span>,
     /// The time from a release to the deadline. None if it is infinite.
     pub capacity: Option<Span>,
+    /// What a missed deadline does to the process: a type; [`Record::deadline`] is an instant.
     pub deadline: DeadlineType,
 }
 
 /// The record that the partition keeps of a process.
 #[derive(Clone, Copy)]
 pub struct Record {
+    /// Those of the table, which never change.
     pub attributes: Attributes,
+    /// The core to which it is bound.
     pub core: CoreId,
     /// The base priority, 1 to 239; a greater one is more urgent.
     pub base: u8,
+    /// It was started, and is not stopped since.
     pub started: bool,
+    /// Who suspended it, if it is suspended.
     pub suspended: Option<Suspender>,
+    /// The thing for which it waits, if it waits.
     pub wait: Option<Wait>,
     /// Its stamp: the smaller, the longer it is in its queue.
     pub since: i64,
@@ -149,6 +162,7 @@ impl Record {
         self.wait.as_ref()?.queue()
     }
 
+    /// The process is suspended, and suspended itself.
     pub fn is_suspended_by_itself(&self) -> bool
         ensures { result ≡ is_by_itself self.now.suspended }
     {

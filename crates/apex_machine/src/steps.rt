@@ -42,6 +42,7 @@ impl Literal {
         Literal { bytes: copied }
     }
 
+    /// Its bytes, 64 at the most.
     pub fn as_bytes(&self) -> &[u8]
         ensures value { result.now ≡ self.now }
         ensures range { length result.now ≤ MOST_LITERAL }
@@ -67,6 +68,7 @@ impl Model for Step {
 }
 
 impl Step {
+    /// The step of this call, which names the literal by the step's origin, or no literal.
     pub fn new(call: Call, literal: Literal) -> Step
         ensures { result ≡ record { call = call; literal = literal } }
     {
@@ -80,12 +82,14 @@ impl Step {
         Step::new(call, Literal::new())
     }
 
+    /// The call that the step asks for.
     pub fn call(&self) -> Call
         ensures { result ≡ self.now.call }
     {
         self.call
     }
 
+    /// The literal that the call names. It has no byte if the call names none.
     pub fn literal(&self) -> &Literal
         ensures { result.now ≡ self.now.literal }
     {

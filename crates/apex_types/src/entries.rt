@@ -10,7 +10,7 @@ use arrayvec::ArrayVec;
 use std::marker::Model;
 use thiserror::Error;
 
-/// The return codes of APEX (ARINC 653 Part 1), in the order of their numbers.
+/// The return codes of APEX (ARINC 653 Part 1), in the order of their numbers, which begin at 0.
 #[derive(Clone, Copy, PartialEq, Eq)]
 pub enum ReturnCode {
     NoError,
@@ -34,13 +34,16 @@ pub enum Event {
 /// The maker of an event.
 #[derive(Clone, Copy, PartialEq, Eq)]
 pub enum Who {
+    /// The core whose turn it was.
     Core(CoreId),
+    /// The event was a tick.
     Ticker,
 }
 
 /// The caller of an entry's call.
 #[derive(Clone, Copy, PartialEq, Eq)]
 pub enum Caller {
+    /// The process whose call it is.
     Process(ProcessId),
     /// The init list.
     Init,
@@ -51,6 +54,7 @@ pub enum Caller {
 /// The reply to a call, or the result of an idle turn or a tick.
 #[derive(Clone, Copy, PartialEq, Eq)]
 pub enum Reply {
+    /// The return code of a call that gave its caller nothing else, or that was refused.
     Code(ReturnCode),
     /// The value that the caller asked for: a time in ticks, an id or a core.
     Value(u64),
@@ -58,7 +62,8 @@ pub enum Reply {
     Status(u32, u32),
     /// The message that the caller gets.
     Message(Message),
-    /// The caller waits, or suspended itself; a later `woken` notice has its code.
+    /// The caller waits, or suspended itself. A later `woken` notice has its code, but the end of a
+    /// PERIODIC_WAIT is a `released` notice. Neither comes if the process is stopped before.
     Blocked,
     /// The caller is stopped, or the mode is IDLE from now on.
     Gone,
@@ -107,6 +112,7 @@ impl Model for Notices {
 }
 
 impl Notices {
+    /// No notice.
     pub fn new() -> Notices
         ensures { result ≡ [] }
     {
@@ -127,6 +133,7 @@ impl Notices {
         Notices { notices: copied }
     }
 
+    /// Adds the notice behind the others.
     pub fn push(&mut self, notice: Notice)
         requires { length self.old < MOST_NOTICES }
         ensures { self.new ≡ self.old ++ notice ∷ [] }
@@ -141,6 +148,7 @@ impl Notices {
         self.notices.clear();
     }
 
+    /// The notices in their order.
     pub fn as_slice(&self) -> &[Notice]
         ensures value { result.now ≡ self.now }
         ensures few_notices { length result.now ≤ MOST_NOTICES }
@@ -156,11 +164,15 @@ pub struct Entry {
     pub number: u32,
     /// The time after the event, in ticks.
     pub now: u64,
+    /// The maker of the event.
     pub who: Who,
+    /// The caller of the entry's call.
     pub process: Caller,
     /// The call that was carried out, or none at an idle turn and a tick.
     pub call: Option<Call>,
+    /// The reply to the call, or the result of an idle turn or a tick.
     pub reply: Reply,
+    /// The effects on other processes, in their order.
     pub notices: Notices,
 }
 
@@ -184,11 +196,17 @@ impl Entry {
 /// An [`Entry`] whose notices are lent, as a log lends it.
 #[derive(Drop)]
 pub struct LentEntry<'a> {
+    /// The entry's place in the history, counted from 1.
     pub number: u32,
+    /// The time after the event, in ticks.
     pub now: u64,
+    /// The maker of the event.
     pub who: Who,
+    /// The caller of the entry's call.
     pub process: Caller,
+    /// The call that was carried out, or none at an idle turn and a tick.
     pub call: Option<Call>,
+    /// The reply to the call, or the result of an idle turn or a tick.
     pub reply: Reply,
     /// [`MOST_NOTICES`] at the most.
     pub notices: &'a [Notice],
@@ -235,5 +253,6 @@ impl<'a> LentEntry<'a> {
 #[derive(Clone, Copy, Debug, PartialEq, Eq, Error)]
 #[error("history full after {entries} entries")]
 pub struct Full {
+    /// The number of entries that the history holds, which is its limit.
     pub entries: u32,
 }

@@ -6,12 +6,16 @@ ghost use Rattle.apex_types.specs.Modes.{is_normal};
 /// The partition's operating mode (ARINC 653 Part 1, partition management).
 #[derive(Clone, Copy, PartialEq, Eq)]
 pub enum Mode {
+    /// No process runs any more: the partition never leaves this mode (this profile).
     Idle,
+    /// Core 0 carries out the init list, and no process runs.
     ColdStart,
+    /// The cores run the processes.
     Normal,
 }
 
 impl Mode {
+    /// Whether it is NORMAL, the only mode in which processes run.
     pub fn is_normal(self) -> bool
         ensures { result ≡ is_normal self }
     {
@@ -22,9 +26,13 @@ impl Mode {
 /// A process's state (ARINC 653 Part 1, process management).
 #[derive(Clone, Copy, PartialEq, Eq)]
 pub enum State {
+    /// Not started, or stopped since.
     Dormant,
+    /// Eligible, but another process is its core's chosen one.
     Ready,
+    /// Its core's chosen one.
     Running,
+    /// Waiting for something, or suspended.
     Waiting,
 }
 

@@ -25,10 +25,11 @@ holding_of m held = find (is_of m) held
 abbrev pub raised : ℕ → List Holding → ℕ
 raised base held = fold (λ most (holding : Holding). max most holding.ceiling) base held
 
--- the same, but mutex m at this depth
+-- the holding, but at this depth if it is of mutex m
 abbrev pub at_depth : ℕ → ℕ → Holding → Holding
 at_depth m depth holding = if is_of m holding then record holding { depth = depth } else holding
 
+-- the same, but mutex m at this depth
 abbrev pub with_depth : ℕ → ℕ → List Holding → List Holding
 with_depth m depth held = map (at_depth m depth) held
 
@@ -36,13 +37,14 @@ with_depth m depth held = map (at_depth m depth) held
 abbrev pub without : ℕ → List Holding → List Holding
 without m held = filter (λ holding. not (is_of m holding)) held
 
--- in order of the mutexes' numbers
+-- the holding among others that are in order of the mutexes' numbers
 abbrev pub inserted : Holding → List Holding → List Holding
 inserted holding [] = holding ∷ []
 inserted holding (other ∷ others) =
     if nat_lt holding.mutex other.mutex then holding ∷ other ∷ others
     else other ∷ inserted holding others
 
+-- in order of the mutexes' numbers
 abbrev pub in_order : List Holding → List Holding
 in_order [] = []
 in_order (holding ∷ others) = inserted holding (in_order others)
@@ -51,6 +53,7 @@ in_order (holding ∷ others) = inserted holding (in_order others)
 abbrev pub filler : Holding
 filler = record { mutex = 0; ceiling = 0; depth = 0 }
 
+-- what is held, with fillers behind it up to the most mutexes that a process may own
 abbrev pub padded : List Holding → List Holding
 padded held = held ++ replicate (MOST_OWNED - length held) filler
 

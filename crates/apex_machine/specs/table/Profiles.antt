@@ -4,7 +4,7 @@ use Rattle.apex_types.specs.declared.limits.TheConstants.{MOST_OWNED, MOST_OWNED
 use Rattle.apex_machine.specs.Terms.{Profile}
 use Rattle.apex_machine.specs.declared.profiles.Profile.TheVariants.{One, Two}
 
--- the profile of this number, 1 or 2
+-- the profile of this number: One of 1, and Two of any other; a table's number is 1 or 2
 abbrev pub profile_of : ℕ → Profile
 profile_of number = if number == 1 then One else Two
 
