@@ -3,6 +3,7 @@
 use Rattle.std.specs.Prelude.{◌≡◌, ℕ, ◌+◌, ◌<◌, ◌≤◌, true, false, ◌==◌, if◌then◌else◌, List, [], ◌∷◌, ◌++◌, map, length, replicate, slice_get, slice_index_or, slice_set, Option, Some}
 use Rattle.apex_links.specs.Neighbours.{stands_in, after_in, IsDistinct}
 
+-- how many processes there are, numbered from 0, and the processes of each list in their order
 pub record Links : Type 0 where
   pub processes : ℕ
   pub lists : List (List ℕ)

@@ -7,6 +7,7 @@ use Rattle.apex_warnings.specs.declared.process_warnings.ProcessWarning.TheVaria
 use Rattle.apex_warnings.specs.declared.step_warnings.StepWarning.TheVariants.{MessageRefused, AperiodicWait, SuspendsPeriodic, LowCeiling, NotReleased, WaitsAsOwner, NeverAnswered}
 use Rattle.apex_warnings.specs.declared.warnings.Warning.TheVariants.{Process, Step, UnusedObject, UnusedCore}
 
+-- the word of each kind of warning about a process
 abbrev pub process_word : ProcessWarning → List ℕ
 process_word EmptyScript = codes "empty-script"
 process_word NotStarted = codes "not-started"
@@ -14,6 +15,7 @@ process_word CapacityAbovePeriod = codes "capacity-above-period"
 process_word NoPeriodicWait = codes "no-periodic-wait"
 process_word MuchWork = codes "much-work"
 
+-- the word of each kind of warning about a step
 abbrev pub step_word : StepWarning → List ℕ
 step_word MessageRefused = codes "message-refused"
 step_word AperiodicWait = codes "aperiodic-wait"
@@ -23,12 +25,15 @@ step_word NotReleased = codes "not-released"
 step_word WaitsAsOwner = codes "waits-as-owner"
 step_word NeverAnswered = codes "never-answered"
 
+-- the word of warnings about an object
 abbrev pub object_word : List ℕ
 object_word = codes "unused-object"
 
+-- the word of warnings about a core
 abbrev pub core_word : List ℕ
 core_word = codes "unused-core"
 
+-- the word of a warning, which is that of its kind
 abbrev pub warning_word : Warning → List ℕ
 warning_word (Process warning p) = process_word warning
 warning_word (Step warning origin) = step_word warning
@@ -48,9 +53,11 @@ warning_words =
 abbrev pub is_among : List (List ℕ) → List ℕ → Bool
 is_among words word = list_any (bytes_eq word) words
 
+-- the word is that of a kind of warning
 abbrev pub is_warning_word : List ℕ → Bool
 is_warning_word word = is_among warning_words word
 
+-- each of these is the word of a kind of warning
 abbrev pub are_warning_words : List (List ℕ) → Bool
 are_warning_words words = list_all is_warning_word words
 
