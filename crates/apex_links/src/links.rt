@@ -11,8 +11,9 @@ use std::marker::Model;
 
 /// A set of linked lists of processes.
 ///
-/// A process is in at most one list, and a contract sees each list whole. Every call takes the same
-/// few steps, however many processes are in the lists, and none but `new` takes memory.
+/// A process is in at most one list, and a contract sees each list whole. Every call but `place`
+/// and `place_sorted` takes the same few steps, however many processes are in the lists, and none
+/// but `new` takes memory.
 #[derive(Drop)]
 pub struct LinkSet {
     chains: Chains,
