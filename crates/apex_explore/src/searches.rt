@@ -25,7 +25,9 @@ const STRIDE: usize = 4096;
 /// Places of states, from `from` on and before `limit`.
 #[derive(Clone, Copy)]
 pub struct Places {
+    /// The first place, counted from 0.
     pub from: usize,
+    /// The place behind the last one.
     pub limit: usize,
 }
 

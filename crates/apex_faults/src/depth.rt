@@ -29,6 +29,7 @@ fn items_fit(items: &Vec<Value>, limit: usize) -> bool
     true
 }
 
+/// Arrays and tables nest at most this deep in the table.
 #[cycle(fits)]
 pub fn members_fit(members: &Table, limit: usize) -> bool
     ensures { result ≡ nat_le (members_depth (table_view members.now)) limit }

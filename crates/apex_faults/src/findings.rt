@@ -22,7 +22,9 @@ pub const LONGEST_LISTED: usize = 262_144;
 /// A fault, where it stands in the text, and what is to be said of it.
 #[derive(Drop)]
 pub struct Finding {
+    /// Its word, and what it is about.
     pub fault: TableFault,
+    /// Where it begins in the text.
     pub location: Location,
     /// The text behind the fault's place: the name of the entry, the key or the step, what was given,
     /// and what is wanted.
@@ -167,7 +169,7 @@ fn named_faults(alloc: Global, text: &[u8]) -> Result<Vec<TableFault>, AllocErro
 
 /// The faults of the text, in the order in which the reader comes to them, each with its place in
 /// the text and what is to be said of it; none if the reader takes the text. Of a text of more than
-/// [`LONGEST_LISTED`] bytes the first fault alone is named.
+/// [`LONGEST_LISTED`] bytes the first fault alone is named. Fails only for want of memory.
 pub fn findings_of(alloc: Global, text: &[u8]) -> Result<Vec<Finding>, AllocError>
     ensures faults { IfOk result (λ v. map (λ (f : Finding). f.fault) v.items
         ≡ named_faults text.now) }

@@ -146,7 +146,7 @@ fn faults_of_tree(alloc: Global, text: &[u8], members: Table) -> Result<Vec<Tabl
 /// All faults of the text, in the order in which the reader comes to them: none if it takes the
 /// text, and else its first fault, and then that of the tree in which the ones before are mended,
 /// and so on. At most [`MOST_FAULTS`] are listed, and none behind a mended tree that TOML cannot
-/// print, as one with a date that does not exist.
+/// print, as one with a date that does not exist. Fails only for want of memory.
 #[tactic(auto, using(crate::proofs::Mendings::of_no_tree, crate::proofs::Mendings::begins, crate::proofs::Mendings::few))]
 pub fn faults(alloc: Global, text: &[u8]) -> Result<Vec<TableFault>, AllocError>
     ensures all { IfOk result (λ v. v.items ≡ faults_of text.now) }

@@ -8,7 +8,9 @@ use apex_words::{Key, Part, Place, Section, Subject};
 /// A line and a column of a text, both counted from 1; a column counts characters.
 #[derive(Clone, Copy, PartialEq, Eq)]
 pub struct Location {
+    /// One more than the line feeds before it.
     pub line: usize,
+    /// One more than the characters before it in its line.
     pub column: usize,
 }
 

@@ -122,6 +122,8 @@ pub fn changed(
     }
 }
 
+/// The path to the entry of this number in a section, counted from 1, or to the section as a whole
+/// if the number is 0. Fails only for want of memory.
 pub fn place_path(alloc: Global, section: Section, number: u32) -> Result<Vec<PathStep>, AllocError>
     ensures { IfOk result (λ path. path.items ≡ place_path section number) }
 {

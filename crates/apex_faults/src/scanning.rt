@@ -10,6 +10,7 @@ pub struct Expression<'t> {
     pub start: &'t [u8],
     /// The name of a header, or the key, with the spaces around it.
     pub name: &'t [u8],
+    /// Whether it is a header, and no key.
     pub is_header: bool,
     /// The text behind the header, or behind `=`.
     pub value: &'t [u8],

@@ -30,7 +30,8 @@ fn nearer<'w>(
 }
 
 /// The nearest one of these words, by the edits that lead to it from the given word; none if each
-/// one takes more edits than half as many as the given word has bytes.
+/// one takes more edits than half as many as the given word has bytes. Fails only for want of
+/// memory.
 pub fn nearest<'w>(
     alloc: Global,
     word: &str,

@@ -10,6 +10,7 @@ pub struct Wording {
 }
 
 impl Wording {
+    /// A text of no byte, whose memory is taken piece by piece.
     pub fn new(alloc: Global) -> Wording {
         Wording {
             alloc,

@@ -78,7 +78,7 @@ impl<'r, R: Threads + Sync> Jobs<'r, R> {
     }
 
     /// Searches on, nearest states first, for a choice of the system that hits, as `Search::go_on`
-    /// does.
+    /// does. Fails only for want of memory: nothing is known of the search then.
     pub fn go_on<W: Drop + Send, S: System<Workspace = W> + Sync, V: Watch>(
         &self,
         alloc: Global,

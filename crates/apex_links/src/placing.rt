@@ -15,6 +15,7 @@ pub trait Test {
     /// The number of processes that the test knows, from number 0 on.
     ghost known: { Self → ℕ };
 
+    /// Whether this process passes the test.
     fn passes(&self, process: ProcessId) -> bool
         requires { process < known self.now }
         ensures { result ≡ passes self.now process };

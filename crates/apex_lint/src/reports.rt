@@ -28,7 +28,9 @@ pub enum Verdict {
 /// A report, and the verdict.
 #[derive(Drop)]
 pub struct Report {
+    /// Its bytes, in the form that was asked for.
     pub text: Vec<u8>,
+    /// Whether the text is a table, and whether there is a warning about it.
     pub verdict: Verdict,
 }
 
@@ -456,8 +458,9 @@ fn judge(alloc: Global, allowed: &[&str], text: &[u8]) -> Result<Judgement, Allo
 
 /// The report on the text: all its faults, or else its warnings but for those that are `allowed`,
 /// each with its place in the text. `file` is the name under which the text is reported. As text it
-/// has a line for each remark: `FILE:LINE:COLUMN: error: TEXT`, or `warning` in place of `error`. As
-/// JSON it is an array with an object for each remark, one a line.
+/// has a line for each remark: `FILE:LINE:COLUMN: error: TEXT`, or `warning` in place of `error`.
+/// As JSON it is an array with an object for each remark, one a line. Fails only for want of
+/// memory.
 pub fn report_on(
     alloc: Global,
     form: Form,

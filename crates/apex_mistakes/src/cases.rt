@@ -3,6 +3,7 @@
 /// A mistaken table with its answer.
 #[derive(Clone, Copy)]
 pub struct Case<'a> {
+    /// The first line of its text.
     pub title: &'a str,
     /// The table's text, with its last line feed.
     pub table: &'a str,

@@ -10,8 +10,11 @@ use std::{io, str};
 /// What was compared.
 #[derive(Clone, Copy)]
 pub struct Counts {
+    /// The number of cases.
     pub tables: usize,
+    /// The number of those whose table is refused.
     pub refused: usize,
+    /// The number of those whose answer is not the report on their table.
     pub differing: usize,
 }
 

@@ -19,7 +19,9 @@ pub enum Sought {
 /// What a search is asked for.
 #[derive(Clone, Copy)]
 pub struct Search {
+    /// The fact, the facts or the response for which it looks.
     pub sought: Sought,
+    /// How fast the cores are in the schedules among which it looks.
     pub pace: Pace,
     /// The number of states for which there is room.
     pub room: u32,

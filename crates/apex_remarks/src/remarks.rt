@@ -40,6 +40,7 @@ impl Severity {
 /// A fault of a table's text, or a warning about the table.
 #[derive(Drop)]
 pub struct Remark {
+    /// Whether it is a fault or a warning.
     pub severity: Severity,
     /// The fault's word, or the word by which the warning is left out.
     pub code: &'static str,
@@ -289,6 +290,7 @@ fn remarks_of_faults(
 }
 
 /// The remarks on the warnings about the table of the text, but for those with one of these words.
+/// Fails only for want of memory.
 pub fn remarks_on_table(
     alloc: Global,
     text: &[u8],
@@ -304,7 +306,7 @@ pub fn remarks_on_table(
     remarks_of_warnings(alloc, text, table, &warnings)
 }
 
-/// The remarks on the faults of the text.
+/// The remarks on the faults of the text. Fails only for want of memory.
 #[tactic(auto, using(crate::proofs::Further::heads_made))]
 pub fn remarks_on_faults(alloc: Global, text: &[u8]) -> Result<Vec<Remark>, AllocError>
     ensures heads { IfOk result (λ v. map head v.items ≡ heads_of_faults text.now) }

@@ -19,7 +19,9 @@ use std::marker::Model;
 /// The choice by which a state was found, and the place of the state that it was made in.
 #[derive(Clone, Copy)]
 pub struct Origin {
+    /// The place of that state, counted from 0. 0 for the first state, too.
     pub parent: u32,
+    /// The number of the choice, counted from 0. 0 for the first state, too.
     pub choice: u32,
 }
 

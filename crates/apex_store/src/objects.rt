@@ -29,6 +29,7 @@ pub trait Object: Drop {
     /// The premise of the kind's services about the store, for the object at a place.
     ghost IsThere: { Roster → ℕ → Type 0 };
 
+    /// Whether the object is created: CREATE answered NO_ERROR for it.
     fn is_created(&self) -> bool
         ensures { result ≡ kind.created self.now };
 

@@ -18,9 +18,11 @@ pub trait Order {
 
     ghost precedes: { Self → Record → Record → Bool };
 
+    /// Whether the scan looks at the process of this record.
     fn passes(&self, fields: &Record) -> bool
         ensures { result ≡ passes self.now fields.now };
 
+    /// Whether the process of the first record comes before that of the second one.
     fn precedes(&self, first: &Record, second: &Record) -> bool
         ensures { result ≡ precedes self.now first.now second.now };
 
@@ -30,7 +32,9 @@ pub trait Order {
 /// The processes that a core may run, the most urgent first.
 #[derive(Drop)]
 pub struct Runnable {
+    /// The partition's mode: only in NORMAL may a process run.
     pub mode: Mode,
+    /// The core to which the processes are bound.
     pub core: CoreId,
 }
 
@@ -53,7 +57,9 @@ impl Order for Runnable {
 /// The processes that wait in a queue of this discipline, in the queue's order.
 #[derive(Drop)]
 pub struct Waiting {
+    /// The order of the queue.
     pub discipline: Discipline,
+    /// The queue in which they wait.
     pub queue: Queue,
 }
 
@@ -76,8 +82,11 @@ impl Order for Waiting {
 /// The processes that wait in a queue of this discipline behind one process, in the queue's order.
 #[derive(Drop)]
 pub struct Behind {
+    /// The order of the queue.
     pub discipline: Discipline,
+    /// The queue in which they wait.
     pub queue: Queue,
+    /// The record of the process behind which they are.
     pub ahead: Record,
 }
 

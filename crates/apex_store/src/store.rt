@@ -28,6 +28,7 @@ pub trait Store: Drop {
         ensures value { result ≡ (roster self.now).cores }
         ensures range { result ≤ MOST_CORES };
 
+    /// The operating mode of the partition.
     fn mode(&self) -> Mode
         ensures { result ≡ (roster self.now).mode };
 
@@ -35,10 +36,12 @@ pub trait Store: Drop {
     fn now(&self) -> u64
         ensures { result ≡ (roster self.now).now };
 
+    /// The number of processes that the table has, created or not.
     fn process_count(&self) -> usize
         ensures value { result ≡ length (roster self.now).records }
         ensures range { result ≤ MOST_PROCESSES };
 
+    /// The record of the process.
     fn record(&self, process: ProcessId) -> &Record
         requires known { process < length (roster self.now).records }
         ensures { result.now ≡ record_at (roster self.now) process };
@@ -53,6 +56,8 @@ pub trait Store: Drop {
         ensures value { result ≡ chosen (roster self.now) core }
         ensures known { IfSome result (λ p. p < length (roster self.now).records) };
 
+    /// The state of the process: RUNNING if it is the one that its core runs, and READY if it is
+    /// otherwise eligible.
     fn state(&self, process: ProcessId) -> State
         requires known { process < length (roster self.now).records }
         ensures { result ≡ process_state (roster self.now) process }
@@ -112,6 +117,8 @@ pub trait Store: Drop {
         requires time { HasTime (roster self.old) }
         ensures { roster self.new ≡ stamps.start (roster self.old) process delay };
 
+    /// The process is dormant from now on: it waits for nothing, isn't suspended, has no due and no
+    /// deadline, and owns no mutex. The mutexes that it owned are handed to nobody.
     fn stop(&mut self, process: ProcessId)
         requires known { process < length (roster self.old).records }
         ensures { roster self.new ≡ stamps.stop (roster self.old) process };

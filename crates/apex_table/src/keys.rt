@@ -50,6 +50,7 @@ fn required(at: Place, table: &Table, key: Key) -> Result<&Value, TableFault>
     }
 }
 
+/// The text that the value is. `WrongType` if it is none.
 pub fn text(subject: Subject, value: &Value) -> Result<&str, TableFault>
     ensures { Gives (λ t. t.now) result (text subject (view value.now)) }
 {
@@ -68,6 +69,7 @@ fn truth(subject: Subject, value: &Value) -> Result<bool, TableFault>
     }
 }
 
+/// The table that the value is. `WrongType` if it is none.
 pub fn table(subject: Subject, value: &Value) -> Result<&Table, TableFault>
     ensures { Gives (λ t. table_view t.now) result (table subject (view value.now)) }
 {
@@ -77,6 +79,7 @@ pub fn table(subject: Subject, value: &Value) -> Result<&Table, TableFault>
     }
 }
 
+/// The values of the array that the value is. `WrongType` if it is none.
 pub fn array(subject: Subject, value: &Value) -> Result<&[Value], TableFault>
     ensures { Gives (λ s. map view s.now) result (array subject (view value.now)) }
 {
@@ -234,6 +237,7 @@ pub fn discipline_at(at: Place, table: &Table) -> Result<Discipline, TableFault>
     discipline(at.key(Key::Discipline), word)
 }
 
+/// The name of this text. `BadName` if it is no name.
 pub fn well_formed(subject: Subject, text: &str) -> Result<Name, TableFault>
     ensures { Gives (λ n. n) result (well_formed subject text.now) }
 {

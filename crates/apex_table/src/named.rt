@@ -9,6 +9,7 @@ use apex_types::Name;
 pub trait Named {
     ghost name_of: { Self → List ℕ };
 
+    /// The entry's name, which no other entry of its section has.
     fn name(&self) -> &Name
         ensures { result.now ≡ name_of self.now };
 }

@@ -19,11 +19,17 @@ use toml::{Table, Value};
 /// A process whose script is still text.
 #[derive(Drop)]
 pub struct Draft<'a> {
+    /// The name, which no other process has.
     pub name: Name,
+    /// The priority, the period, the capacity and the type of deadline.
     pub attributes: Attributes,
+    /// The core that the default init list gives it.
     pub core: CoreId,
+    /// Whether the script begins anew after its last step.
     pub loops: bool,
+    /// Whether the default init list starts it.
     pub starts: bool,
+    /// The texts of its steps, 64 at the most.
     pub script: Vec<&'a str>,
 }
 
@@ -109,7 +115,9 @@ const PROCESS_KEYS: &[Key] = &[
 /// The kind of processes, in a profile and on `cores` cores.
 #[derive(Drop)]
 pub struct Processes {
+    /// The profile, which limits the number of processes.
     pub profile: Profile,
+    /// The number of cores, 1 to 8.
     pub cores: u32,
     ghost in_range: { (1 ≤ cores) × (cores ≤ MOST_CORES) },
 }

@@ -151,7 +151,8 @@ fn document(alloc: Global, text: &[u8]) -> Result<toml::Table, TableFault>
     }
 }
 
-/// The table of a text, or the first of its faults in the order of the checks.
+/// The table of a text, or the first of its faults in the order of the checks. `Memory` if memory
+/// is refused, which may come at any point.
 ///
 /// Each step of the table has one text: its call, as a line writes it, is read as the step, and no
 /// other text is.

@@ -16,8 +16,11 @@ use toml::{Table, Value};
 /// A section, the most entries that it may have, and the keys of one.
 #[derive(Clone, Copy)]
 pub struct Head<'k> {
+    /// The section of the entries.
     pub section: Section,
+    /// The most entries that it may have.
     pub most: usize,
+    /// The keys that an entry may have.
     pub keys: &'k [Key],
 }
 
@@ -32,6 +35,7 @@ pub trait EntryKind<'a> {
 
     ghost read: { Self → Place → List ℕ → Members → Result Self.Entry TableFault };
 
+    /// The section of these entries, the most of them, and the keys of one.
     fn head(&self) -> Head<'static>
         ensures head { head_of result ≡ head self.now }
         ensures few_entries { result.most ≤ MOST_INIT_STEPS };

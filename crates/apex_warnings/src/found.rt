@@ -61,6 +61,7 @@ impl Found {
         }
     }
 
+    /// The warnings, in the order in which they were added.
     pub fn into_warnings(self) -> Vec<Warning>
         ensures { result.items ≡ self }
     {

@@ -8,7 +8,7 @@ use apex_machine::Queue;
 use apex_types::{BlackboardId, BufferId, EventId, MutexId, SemaphoreId};
 use apex_words::Section;
 
-/// The objects of one kind.
+/// The objects of one kind: those of one section of the table.
 #[derive(Clone, Copy)]
 pub enum Group {
     Semaphores,

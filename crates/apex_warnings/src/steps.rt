@@ -26,6 +26,7 @@ impl Model for StepCall {
 }
 
 impl StepCall {
+    /// The call as the table gives it.
     pub fn call(&self) -> Call
         ensures { result ≡ self.now }
     {
@@ -129,6 +130,7 @@ fn scripts_of(alloc: Global, table: &Table) -> Result<Vec<Script>, AllocError>
 }
 
 impl<'a> TableSteps<'a> {
+    /// The table with the calls of its steps, which are copied. Fails only for want of memory.
     pub fn of(alloc: Global, table: &'a Table) -> Result<TableSteps<'a>, AllocError>
         ensures { IfOk result (λ s. s ≡ table.now) }
     {
@@ -141,6 +143,7 @@ impl<'a> TableSteps<'a> {
         })
     }
 
+    /// The table whose steps these are.
     pub fn table(&self) -> &Table
         ensures { result.now ≡ self.now }
     {

@@ -98,6 +98,7 @@ fn parts(alloc: Global, text: &str) -> Result<Vec<&str>, AllocError>
 }
 
 /// The words of a text, which have commas between them; none if one of them is no warning's word.
+/// Fails only for want of memory.
 pub fn allowed_in(alloc: Global, text: &str) -> Result<Option<Vec<&str>>, AllocError>
     ensures { IfOk result (λ o. option_map (λ v. map (λ w. w.now) v.items) o
         ≡ allowed_in text.now) }

@@ -16,7 +16,9 @@ use std::mem::drop;
 /// place and the reason; processes, steps and objects are counted from 1 there.
 #[derive(Clone, Copy)]
 pub enum Warning {
+    /// What the table can hardly mean of this process.
     Process(ProcessWarning, ProcessId),
+    /// What the step at this place of its list can hardly mean.
     Step(StepWarning, Origin),
     /// No step names the object of this kind at this place, counted from 0, except to create it.
     UnusedObject(Group, u8),
@@ -26,7 +28,8 @@ pub enum Warning {
 
 /// The warnings of the table; none says that the table is wrong. First come those about processes
 /// and about steps, each in the order of the variants and then of the table, where the init list
-/// comes before the scripts; then those about objects, kind by kind, and about cores.
+/// comes before the scripts; then those about objects, kind by kind, and about cores. Fails only
+/// for want of memory.
 pub fn lint(alloc: Global, table: &Table) -> Result<Vec<Warning>, AllocError>
     ensures { IfOk result (λ v. v.items ≡ warnings table.now) }
 {

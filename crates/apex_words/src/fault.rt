@@ -10,9 +10,10 @@ use std::alloc::{AllocError, AllocFailed};
 use std::error::Error;
 use std::fmt;
 
-/// A section of the table's text.
+/// A section of the table's text: its top, the entries of one kind, or the init list.
 #[derive(Clone, Copy, PartialEq, Eq)]
 pub enum Section {
+    /// The table as a whole, which has the keys that belong to no entry.
     Top,
     Process,
     Semaphore,
@@ -53,7 +54,9 @@ impl fmt::Display for Section {
 /// The place of a fault: an entry of a section, counted from 1, or 0 for the section as a whole.
 #[derive(Clone, Copy, PartialEq, Eq)]
 pub struct Place {
+    /// The section that is meant, or that has the entry.
     pub section: Section,
+    /// The entry or the init step, counted from 1, or 0 for the section as a whole.
     pub number: u32,
 }
 

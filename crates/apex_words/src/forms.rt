@@ -15,7 +15,7 @@ use apex_types::{
 use arrayvec::ArrayVec;
 use std::alloc::{AllocError, Global};
 
-/// The parts between single spaces, which may be empty.
+/// The parts between single spaces, which may be empty. Fails only for want of memory.
 pub fn words(alloc: Global, text: &str) -> Result<Vec<&str>, AllocError>
     ensures { IfOk result (λ v. map (λ w. w.now) v.items ≡ words text.now) }
 {
@@ -36,7 +36,7 @@ pub fn is_timeout(word: &str) -> bool
     word == "infinite" || is_number(word)
 }
 
-/// The number that a word writes, from `low` to `high`.
+/// The number that a word writes, from `low` to `high`. `OutOfRange` if it writes no such number.
 pub fn number(subject: Subject, low: u32, high: u32, word: &str) -> Result<u32, TableFault>
     ensures { result ≡ number subject low high word.now }
 {
@@ -46,7 +46,7 @@ pub fn number(subject: Subject, low: u32, high: u32, word: &str) -> Result<u32, 
     }
 }
 
-/// The timeout that a word writes.
+/// The timeout that a word writes. `OutOfRange` if it writes none.
 pub fn timeout(subject: Subject, word: &str) -> Result<Timeout, TableFault>
     ensures { result ≡ timeout subject word.now }
 {
@@ -121,7 +121,8 @@ fn decoded(digits: &[u8]) -> Literal
     Literal::of(bytes.as_slice())
 }
 
-/// The bytes of the message that a word writes, 64 at the most.
+/// The bytes of the message that a word writes, 64 at the most. `OutOfRange` if it writes no such
+/// message.
 #[tactic(auto, using(crate::proofs::Messages::count_of_pairs))]
 pub fn message_bytes(subject: Subject, word: &str) -> Result<Literal, TableFault>
     ensures { result ≡ message_bytes subject word.now }
@@ -163,7 +164,7 @@ pub fn place_of_name(names: &[Name], name: &[u8]) -> Option<u8>
     }
 }
 
-/// The place, counted from 0, of the entry of this name.
+/// The place, counted from 0, of the entry of this name. `UnknownName` if none has it.
 pub fn entry_of(subject: Subject, names: &[Name], name: &str) -> Result<u8, TableFault>
     requires { length names.now ≤ MOST_PROCESSES }
     ensures { result ≡ entry_of subject names.now name.now }

@@ -4,7 +4,7 @@ ghost use Rattle.apex_words.specs.Fault.{key_word};
 
 use crate::fault::Section;
 
-/// A key of the table's top, or of an entry.
+/// A key of the table's top, or of an entry: [`Key::word`] writes it.
 #[derive(Clone, Copy, PartialEq, Eq)]
 pub enum Key {
     Profile,

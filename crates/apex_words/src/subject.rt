@@ -25,7 +25,9 @@ pub enum Part {
 /// What a fault is about: a place of the table's text, and the part of it that is at fault.
 #[derive(Clone, Copy, PartialEq, Eq)]
 pub struct Subject {
+    /// The section, or the entry of it.
     pub place: Place,
+    /// What is at fault there.
     pub part: Part,
 }
 

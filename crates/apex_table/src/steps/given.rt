@@ -16,7 +16,9 @@ use std::marker::Model;
 /// The values of the words so far: the arguments of the call, and the literal of the step.
 #[derive(Drop)]
 pub struct Given {
+    /// The arguments that the words so far give.
     pub arguments: Arguments,
+    /// The bytes of a message, or of a name that no entry has. No byte if no word so far is such.
     pub literal: Literal,
 }
 
