@@ -18,7 +18,9 @@ use std::thread::Threads;
 /// events of the schedule that was found, if one was.
 #[derive(Drop)]
 pub struct WorstAnswer {
+    /// What the search says.
     pub worst: Worst,
+    /// The kernel after the last event of that schedule. None if no schedule was found.
     pub kernel: Option<Kernel<QueueStore>>,
 }
 

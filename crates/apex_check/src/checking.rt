@@ -28,6 +28,7 @@ use std::io::{self, Write};
 /// A history that was followed: the verdict on it, and the kernel that gave it.
 #[derive(Drop)]
 pub struct Followed<S: Store> {
+    /// The verdict on the lines.
     pub verdict: Verdict,
     /// The kernel after the events of the lines that are the machine's, and of the line that
     /// departs from its entry.

@@ -42,7 +42,9 @@ pub enum CheckFault {
     BadLine(u32),
     /// The line has more than 4,096 bytes.
     TooLong(u32),
+    /// A read of the text failed.
     Read,
+    /// A write of the verdict failed.
     Write,
 }
 

@@ -15,7 +15,9 @@ use std::marker::Model;
 /// A situation, and what a pace counts of each of its cores.
 #[derive(Drop)]
 pub struct PacedSituation {
+    /// The situation to which the events so far have led.
     pub situation: Situation<PlainStore>,
+    /// The turns and the ticks of each core that the pace has counted by then.
     pub counts: Counts,
 }
 

@@ -42,10 +42,13 @@ pub enum CliFault {
     TooLong(u32),
     /// The history is full after n entries, and the schedule or the plan has more.
     HistoryFull(u32),
+    /// A growth was refused.
     Memory,
     /// A thread was refused.
     NoThread,
+    /// A read of the program's input failed.
     Read,
+    /// A write of the program's output failed.
     Write,
 }
 

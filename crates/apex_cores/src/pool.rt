@@ -54,9 +54,13 @@ impl<P: Naming> Promise<TickerReport<P>> for WillTick {
 /// What is the same for all workers of a run.
 #[derive(Drop)]
 pub struct Setting<'s, G, R> {
+    /// What starts the threads, and waits for them.
     pub rt: &'s R,
+    /// Where the run has its memory.
     pub alloc: Global,
+    /// The turns of each core, and the ticks of the ticker.
     pub plan: RunPlan,
+    /// The gate, which all cores share.
     pub gate: &'s G,
 }
 
@@ -157,7 +161,9 @@ fn join_cores<P: Naming, R: Threads>(
 /// The seats, in the order of their cores, and the ticker, which the workers of a run give back.
 #[derive(Drop)]
 pub struct Workers<P: Naming> {
+    /// The seats, of which each core has one.
     pub seats: Vec<Seat<P>>,
+    /// The ticker, which makes the ticks of the run.
     pub ticker: Ticker<P>,
 }
 

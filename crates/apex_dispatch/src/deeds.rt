@@ -28,8 +28,11 @@ use apex_types::{Call, Caller, CallerCall, CoreId, Notices, ProcessId, Reply};
 /// The notices are handed out beside it.
 #[derive(Drop)]
 pub struct Deed {
+    /// The process or the init list that asked for the call. Nobody at an idle turn and a tick.
     pub caller: Caller,
+    /// The call that was carried out. None at an idle turn and a tick.
     pub call: Option<Call>,
+    /// The reply to the call, or the result of an idle turn or a tick.
     pub reply: Reply,
 }
 

@@ -336,6 +336,7 @@ impl<S: Store> Kernel<S> {
         &self.situation
     }
 
+    /// The table of its partition.
     pub fn table(&self) -> &Table
         ensures { result.now ≡ self.now.table }
     {

@@ -41,8 +41,10 @@ use thiserror::Error;
 /// The reason why a picture was not drawn to its end.
 #[derive(Clone, Copy, Debug, PartialEq, Eq, Error)]
 pub enum DrawFault {
+    /// A growth was refused.
     #[error("out of memory")]
     Memory,
+    /// A write of the picture failed.
     #[error("write failed")]
     Write,
 }

@@ -13,8 +13,10 @@ use thiserror::Error;
 /// The reason why the bytes of a reader were not read to their end.
 #[derive(Clone, Copy, Debug, PartialEq, Eq, Error)]
 pub enum ReadFault {
+    /// A growth was refused.
     #[error("out of memory")]
     Memory,
+    /// A read failed.
     #[error("read failed")]
     Read,
 }

@@ -15,6 +15,8 @@ pub trait Source {
     // The answers that a read may give: the reader and the buffer, the answer, and both afterwards.
     ghost gives: { Self → List ℕ → Result ℕ Error → List ℕ → Self → Type 0 };
 
+    /// A read: puts bytes at the front of `buf`, and gives their number. 0 means the end, unless
+    /// `buf` has no byte.
     fn give(&mut self, buf: &mut [u8]) -> Result<usize>
         ensures bound { ReadsAtMost result buf.new }
         ensures bytes { ReadConsumes (remaining self.old) (remaining self.new) result buf.new }
@@ -34,11 +36,14 @@ pub trait Sink {
     // The answers that a flush may give.
     ghost drains: { Self → Result (Unit {0}) Error → Self → Type 0 };
 
+    /// A write: takes bytes from the front of `buf`, and gives their number, which may be less than
+    /// all.
     fn accept(&mut self, buf: &[u8]) -> Result<usize>
         ensures bound { WritesAtMost result buf.now }
         ensures bytes { WriteAppends (contents self.old) (contents self.new) result buf.now }
         ensures accepts { accepts self.old buf.now result self.new };
 
+    /// A flush of what was taken.
     fn drain(&mut self) -> Result<()>
         ensures bytes { Keeps (contents self.old) (contents self.new) }
         ensures drains { drains self.old result self.new };

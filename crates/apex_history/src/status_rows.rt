@@ -5,12 +5,13 @@ use apex_types::{
     BlackboardId, BufferId, CoreId, EventId, Message, Mode, MutexId, ProcessId, SemaphoreId, State,
 };
 
-/// One line of the status listing (this profile). Waiters are in the order of their queue,
-/// `MOST_PROCESSES` at most.
+/// One line of the status listing (this profile): each core has one, each created process and each
+/// created object. Waiters are in the order of their queue, `MOST_PROCESSES` at most.
 #[derive(Clone, Copy, Drop)]
 pub enum StatusRow<'a> {
     /// The time in ticks.
     Time(u64),
+    /// The operating mode.
     Mode(Mode),
     /// The number of entries that the history has.
     History(u32),
@@ -37,6 +38,7 @@ pub enum StatusRow<'a> {
     },
     Blackboard {
         blackboard: BlackboardId,
+        /// The message that it holds, if it holds one.
         message: Option<Message>,
         waiting: &'a [ProcessId],
     },
@@ -47,6 +49,7 @@ pub enum StatusRow<'a> {
     },
     Mutex {
         mutex: MutexId,
+        /// The process that owns it. None if it is free.
         owner: Option<ProcessId>,
         /// The depth at which it is owned. 0 if it is free.
         depth: u8,

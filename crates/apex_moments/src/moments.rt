@@ -21,6 +21,7 @@ pub const CORES: usize = MOST_CORES as usize;
 /// A process after an entry, as a picture shows it.
 #[derive(Clone, Copy)]
 pub struct Cell {
+    /// Its state after the entry.
     pub state: State,
     /// Its wait, if it waits.
     pub wait: Option<Wait>,

@@ -44,6 +44,7 @@ pub struct Excerpt {
 /// An entry that has a column.
 #[derive(Clone, Copy)]
 pub struct Timed {
+    /// Its number in the history, counted from 1.
     pub number: u32,
     /// In ticks.
     pub now: u64,

@@ -25,12 +25,14 @@ use apex_types::{Call, Caller, CallerCall, CoreId, Event, ProcessId};
 /// The reason of an event's entry: the caller, its call, and the rule of the reply.
 #[derive(Clone, Copy)]
 pub struct Reason {
+    /// The process or the init list that asks for the call. Nobody at an idle turn and a tick.
     pub caller: Caller,
     /// The call that is carried out. None at an idle turn and a tick.
     pub call: Option<Call>,
     /// The place of the call's step in its script or in the init list, counted from 0; past the
     /// last step of a script at its end. None if work ends, at an idle turn and at a tick.
     pub step: Option<usize>,
+    /// The guard or the rule that decides the reply.
     pub rule: Rule,
 }
 

@@ -93,7 +93,9 @@ impl Plain<(), Note, u64> for Take {
 /// A note without an entry, and its speaker.
 #[derive(Drop)]
 pub struct Call<'a> {
+    /// The speaker's first pen, whose key names the speaker.
     pub by: &'a Snapshot<Pen>,
+    /// The pen of the speaker's next note.
     pub next: &'a Pen,
 }
 
@@ -108,9 +110,13 @@ impl<'a> Plain<Call<'a>, Note, u64> for Say {
 /// A note with an entry, its speaker, and the speaker for which it is.
 #[derive(Drop)]
 pub struct Draft<'a, 'e> {
+    /// The speaker's first pen, whose key names the speaker.
     pub by: &'a Snapshot<Pen>,
+    /// The first pen of the speaker for which it is.
     pub of: &'a Snapshot<Pen>,
+    /// The entry that is written down.
     pub entry: &'a LentEntry<'e>,
+    /// The pen of the speaker's next note.
     pub next: &'a Pen,
 }
 

@@ -9,7 +9,9 @@ use apex_types::{Call, CoreId, LentEntry, Reply, Who};
 /// The figures of a core over a history (this profile).
 #[derive(Clone, Copy)]
 pub struct CoreFigures {
+    /// The core whose figures these are.
     pub core: CoreId,
+    /// Its turns, the idle ones too.
     pub turns: u32,
     /// The turns that had nothing to do.
     pub idle: u32,

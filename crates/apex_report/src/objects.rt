@@ -24,6 +24,7 @@ use std::marker::Model;
 /// A count after an entry (this profile).
 #[derive(Clone, Copy)]
 pub struct Level {
+    /// The value of a semaphore, or a number of messages or of waiters.
     pub count: u64,
     /// The number of the entry in the history, counted from 1.
     pub number: u32,

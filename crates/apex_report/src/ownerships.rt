@@ -14,15 +14,18 @@ use apex_types::{Call, Caller, LentEntry, MutexService, ObjectCall, ProcessId, R
 /// The owner of a mutex (this profile).
 #[derive(Clone, Copy)]
 pub struct Owner {
+    /// The process that owns the mutex.
     pub process: ProcessId,
     /// The time in ticks at which it got the mutex.
     pub since: u64,
+    /// The number of times that the process acquired it and has not released it yet.
     pub depth: u32,
 }
 
 /// The ownership of a mutex that has ended (this profile).
 #[derive(Clone, Copy)]
 pub struct Ownership {
+    /// The process that owned the mutex.
     pub process: ProcessId,
     /// The time in ticks at which the process got the mutex.
     pub since: u64,

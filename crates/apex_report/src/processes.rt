@@ -18,6 +18,7 @@ use std::marker::Model;
 /// The figures of a process over a history (this profile). Times are in ticks.
 #[derive(Clone, Copy)]
 pub struct ProcessFigures {
+    /// The process whose figures these are.
     pub process: ProcessId,
     /// The turns in which it carried out a step.
     pub turns: u32,
@@ -31,6 +32,7 @@ pub struct ProcessFigures {
     pub work_lost: u64,
     /// The replies to its calls, other than NO_ERROR.
     pub refusals: Refusals,
+    /// Its jobs, each of which begins with a release.
     pub jobs: JobFigures,
     /// The queue of the object for which it waits, if it waits for one.
     pub waits_in: Option<Queue>,

@@ -14,6 +14,7 @@ use std::alloc::{AllocError, Global};
 /// The figures of a service over a history (this profile).
 #[derive(Clone, Copy)]
 pub struct ServiceFigures {
+    /// The service whose figures these are.
     pub service: Service,
     /// The replies to its calls, other than NO_ERROR, whoever asked for them.
     pub refusals: Refusals,

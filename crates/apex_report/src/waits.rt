@@ -35,7 +35,9 @@ type CallParts = (
 /// A process that an entry wakes.
 #[derive(Clone, Copy)]
 pub struct Waking {
+    /// The process that is woken.
     pub process: ProcessId,
+    /// The code with which its wait, or its suspension of itself, ended.
     pub code: ReturnCode,
     /// The latest call of the process, which made it wait.
     pub call: Option<Call>,

@@ -20,6 +20,7 @@ pub enum ScheduleFault {
     /// With the word at this place the items are more than [`MOST_ENTRIES`], each group written out
     /// as often as it comes.
     TooMany(Place),
+    /// A growth was refused.
     Memory,
 }
 

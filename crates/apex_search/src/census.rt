@@ -20,7 +20,9 @@ use std::thread::Threads;
 /// has the number of the path's choices.
 #[derive(Drop)]
 pub struct Finding {
+    /// The fact of that entry.
     pub fact: Fact,
+    /// The choices of that schedule by their numbers, in order.
     pub path: Vec<u32>,
 }
 
@@ -40,6 +42,7 @@ pub struct Census {
     pub found: Vec<Finding>,
     /// The facts that were not.
     pub others: Facts,
+    /// Why none of the others was found.
     pub end: End,
 }
 

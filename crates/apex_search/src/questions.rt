@@ -22,8 +22,11 @@ use apex_types::{
 /// that waits is that of an earlier entry, and it doesn't narrow a standstill, which is no call's.
 #[derive(Drop)]
 pub struct Question {
+    /// The facts, of which one is enough.
     pub facts: Facts,
+    /// The process that is meant. None if any is.
     pub process: Option<ProcessId>,
+    /// The service that is meant. None if any is.
     pub service: Option<Service>,
 }
 

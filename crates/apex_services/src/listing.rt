@@ -53,8 +53,11 @@ const SECTIONS: [Section; 10] = [
 /// All that is listed of a partition.
 #[derive(Drop)]
 pub struct Listing<'a, S: Store> {
+    /// The table of the partition.
     pub table: &'a Table,
+    /// The records of its processes, its mode and its time.
     pub store: &'a S,
+    /// The running values of its objects.
     pub objects: &'a Objects,
     /// The number of entries that the history has.
     pub entries: u32,

@@ -13,7 +13,7 @@ use std::alloc::{AllocError, Global};
 use std::marker::Model;
 
 /// The objects, which the services see besides the processes' records: one for each entry of the
-/// table, with its running value, which the history gives too.
+/// table, in its order, with its running value, which the history gives too.
 #[derive(Drop)]
 pub struct Objects {
     pub processes: Vec<ProcessObject>,

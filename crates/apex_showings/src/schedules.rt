@@ -19,6 +19,7 @@ pub enum Reason {
 /// A fault of a schedule's text, with its place.
 #[derive(Clone, Copy, PartialEq, Eq)]
 pub struct BadSchedule {
+    /// Why the text is no schedule.
     pub reason: Reason,
     /// The number of the item, from 1.
     pub item: usize,

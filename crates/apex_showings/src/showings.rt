@@ -66,6 +66,8 @@ pub enum View {
 /// A run that is to be shown.
 #[derive(Drop)]
 pub struct Showing {
+    /// How the run is given.
     pub source: RunSource,
+    /// How it is shown.
     pub view: View,
 }

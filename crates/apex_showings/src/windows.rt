@@ -18,20 +18,25 @@ pub enum Bound {
 /// The entries of a history that are not before a bound, and not behind another one.
 #[derive(Clone, Copy)]
 pub struct Window {
+    /// The bound before which no entry of the window is.
     pub first: Bound,
+    /// The bound behind which no entry of the window is.
     pub last: Bound,
 }
 
 /// The numbers of the first entry of a window and of the last one.
 #[derive(Clone, Copy)]
 pub struct Span {
+    /// The number of the first entry in the history, counted from 1.
     pub first: u32,
+    /// The number of the last entry, which is in the window, too.
     pub last: u32,
 }
 
 /// A window in which a run has no entry, or none but idle ones.
 #[derive(Clone, Copy)]
 pub struct EmptyWindow {
+    /// The window that was asked for.
     pub window: Window,
     /// Whether idle entries are folded.
     pub fold: bool,

@@ -12,6 +12,7 @@ use thiserror::Error;
 /// The reason why a session ended before its text did.
 #[derive(Clone, Copy, Debug, PartialEq, Eq, Error)]
 pub enum StepFault {
+    /// A growth was refused.
     #[error("out of memory")]
     Memory,
     /// The text before the separator is no table. The fault is never `TableFault::Memory`.
@@ -20,8 +21,10 @@ pub enum StepFault {
     /// No line is exactly `%%`.
     #[error("no separator")]
     NoSeparator,
+    /// A read of the text failed.
     #[error("read failed")]
     Read,
+    /// A write of an answer failed.
     #[error("write failed")]
     Write,
 }

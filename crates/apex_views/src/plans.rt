@@ -32,8 +32,11 @@ use std::alloc::{AllocError, Global};
 /// A picture that is to be drawn: its style, and the events of which it is.
 #[derive(Drop)]
 pub struct Plan {
+    /// As SVG, with its frame, or as a trace, with the length of a tick.
     pub style: Style,
+    /// The table of the run.
     pub table: Table,
+    /// The events of the run, for which the history has room.
     pub events: Vec<Event>,
     /// `HistoryFull` if there were more events.
     pub fault: Option<CliFault>,
