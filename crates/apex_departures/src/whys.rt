@@ -98,7 +98,7 @@ fn reason_at(
 }
 
 /// The text of the reason of the entry of this number, counted from 1, in a kernel's history. None
-/// if the history has no entry of the number.
+/// if the history has no entry of the number. Fails only for want of memory.
 ///
 /// Another kernel of its table makes the events before the entry, and the reason is read off its
 /// situation then.

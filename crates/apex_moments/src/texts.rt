@@ -19,7 +19,7 @@ pub enum Part<'a> {
     Json(&'a [u8]),
 }
 
-/// Puts the text behind the others.
+/// Puts the text behind the others. Fails only for want of memory.
 pub fn put(text: &mut Vec<u8>, more: &str) -> Result<(), AllocError>
     ensures { OnOk result (text.new.items ≡ text.old.items ++ more.now) }
 {
@@ -51,7 +51,7 @@ fn put_two_digits(text: &mut Vec<u8>, number: u8) -> Result<(), AllocError>
     text.extend_from_slice(&[b'0' + number / 10, b'0' + number % 10])
 }
 
-/// Puts the number in decimal digits.
+/// Puts the number in decimal digits. Fails only for want of memory.
 pub fn put_number(text: &mut Vec<u8>, number: u64) -> Result<(), AllocError>
     ensures { OnOk result (text.new.items ≡ text.old.items ++ decimal number) }
 {
@@ -77,7 +77,7 @@ fn put_xml_byte(text: &mut Vec<u8>, byte: u8) -> Result<(), AllocError>
     }
 }
 
-/// Puts the bytes so that XML reads them back as they are.
+/// Puts the bytes so that XML reads them back as they are. Fails only for want of memory.
 pub fn put_xml(text: &mut Vec<u8>, bytes: &[u8]) -> Result<(), AllocError>
     ensures { OnOk result (text.new.items ≡ text.old.items ++ xml_text bytes.now) }
 {
@@ -98,7 +98,7 @@ fn put_part(text: &mut Vec<u8>, part: &Part<'_>) -> Result<(), AllocError>
     }
 }
 
-/// Puts the parts behind the text, in order.
+/// Puts the parts behind the text, in order. Fails only for want of memory.
 pub fn put_all(text: &mut Vec<u8>, parts: &[Part<'_>]) -> Result<(), AllocError>
     ensures { OnOk result (text.new.items ≡ text.old.items ++ flat_map part_text parts.now) }
 {

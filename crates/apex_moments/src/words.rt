@@ -45,7 +45,7 @@ pub(crate) fn put_id<K: Copy>(text: &mut Vec<u8>, id: Id<K>) -> Result<(), Alloc
     put_number(text, u64::from(id.number()))
 }
 
-/// Puts a kind of objects and the number of one of them.
+/// Puts a kind of objects and the number of one of them. Fails only for want of memory.
 #[tactic(auto, using(std::proofs::Common::append_assoc))]
 pub fn put_object<K: Copy>(text: &mut Vec<u8>, kind: &str, id: Id<K>) -> Result<(), AllocError>
     ensures { OnOk result (text.new.items ≡ text.old.items ++ (kind.now ++ id_text id)) }
@@ -54,7 +54,7 @@ pub fn put_object<K: Copy>(text: &mut Vec<u8>, kind: &str, id: Id<K>) -> Result<
     put_id(text, id)
 }
 
-/// Puts the wait of a process.
+/// Puts the wait of a process. Fails only for want of memory.
 pub fn put_wait(text: &mut Vec<u8>, wait: &Wait) -> Result<(), AllocError>
     ensures { OnOk result (text.new.items ≡ text.old.items ++ wait_text wait.now) }
 {

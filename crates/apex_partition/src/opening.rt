@@ -93,7 +93,8 @@ pub fn open_read<P: Naming>(
     Ok((shared, seats, ticker, board))
 }
 
-/// A partition as `open_read` opens it, without readers: it publishes nothing.
+/// A partition as `open_read` opens it, without readers: it publishes nothing. Fails only for want
+/// of memory.
 pub fn open<P: Naming>(
     alloc: Global,
     table: Table,

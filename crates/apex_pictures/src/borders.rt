@@ -71,7 +71,7 @@ fn put_label_at(
     }
 }
 
-/// Puts what comes before the columns.
+/// Puts what comes before the columns. Fails only for want of memory.
 pub fn put_head(text: &mut Vec<u8>, frame: &Frame) -> Result<(), AllocError>
     ensures { OnOk result (text.new.items ≡ text.old.items ++ head_text frame.now) }
 {
@@ -229,7 +229,7 @@ fn put_selection_part(text: &mut Vec<u8>, frame: &Frame) -> Result<(), AllocErro
 }
 
 /// Puts what comes after the columns: the mark of a departure, the headings of the cores, the labels of
-/// the rows, and the key, with the notes behind it.
+/// the rows, and the key, with the notes behind it. Fails only for want of memory.
 #[tactic(auto, using(std::proofs::Common::append_assoc))]
 pub fn put_foot(text: &mut Vec<u8>, table: &Table, frame: &Frame) -> Result<(), AllocError>
     ensures { OnOk result (text.new.items ≡ text.old.items ++ foot_text table.now frame.now) }

@@ -111,6 +111,7 @@ fn instant_letters(now: u64) -> u32
 impl Frame {
     /// The frame for the entries of a kernel's history that are asked for, [`MOST_COLUMNS`] at the
     /// most, with their columns along this axis, and with rows for these processes, or for all.
+    /// Fails only for want of memory.
     ///
     /// [`MOST_COLUMNS`]: crate::MOST_COLUMNS
     pub fn new<S: Store>(

@@ -603,7 +603,7 @@ fn put_start(text: &mut Vec<u8>, frame: &Frame, number: u32) -> Result<(), Alloc
     )
 }
 
-/// Puts the column of an entry, if the frame shows it.
+/// Puts the column of an entry, if the frame shows it. Fails only for want of memory.
 #[tactic(auto, using(std::proofs::Common::append_assoc))]
 pub fn put_column(
     text: &mut Vec<u8>,

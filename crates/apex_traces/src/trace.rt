@@ -127,7 +127,7 @@ fn put_opening(text: &mut Vec<u8>, table: &Table) -> Result<(), AllocError>
 }
 
 /// Puts what comes before the columns: the names of the tracks, and all counts of the moment before
-/// the first entry.
+/// the first entry. Fails only for want of memory.
 #[tactic(auto, using(std::proofs::Common::append_assoc))]
 pub fn put_head(text: &mut Vec<u8>, table: &Table, first: &Tracks) -> Result<(), AllocError>
     ensures { OnOk result (text.new.items ≡ text.old.items ++ trace.head_text table.now first.now) }
@@ -664,7 +664,7 @@ fn add_foot(piece: &mut Piece, table: &Table, time: u64, stamp: &Timed, last: &T
     add_mutex_ends(piece, table, time, stamp, last.counts().owners());
 }
 
-/// Puts what comes after the columns: the ends of all slices.
+/// Puts what comes after the columns: the ends of all slices. Fails only for want of memory.
 #[tactic(auto, using(std::proofs::Common::append_assoc))]
 pub fn put_foot(
     text: &mut Vec<u8>,
