@@ -1,7 +1,7 @@
 -- No process waits for an object that has what it waits for.
 use Rattle.std.proofs.Common.{◌≡◌, Some, refl}
 use Rattle.apex_laws.specs.Terms.{Record, Wait}
-use Rattle.apex_machine.specs.declared.records.Wait.TheVariants.{Receive, Send, Blackboard, EventFlag}
+use Rattle.apex_machine.specs.declared.records.Wait.TheVariants.{Semaphore, Receive, Send, Blackboard, EventFlag}
 use Rattle.apex_machine.specs.Machine.{Machine}
 use Rattle.apex_machine.specs.processes.Roster.{record_at}
 use Rattle.apex_machine.specs.table.Table.{Table}
@@ -15,6 +15,7 @@ asked_for r w is plain = rw (is, plain) refl
 
 pub none_in_vain : (table : Table) (machine : Machine) → AreKept table machine.roster machine.history → NobodyWaitsInVain table machine
 none_in_vain table machine kept = record {
+  semaphores = λ s inside p is. (kept.semaphores s inside).held p (Semaphore s) (asked_for (record_at machine.roster p) (Semaphore s) is refl) refl;
   buffers = λ b inside.
       let keeps = kept.buffers b inside in
       record {

@@ -1,6 +1,6 @@
 -- Semaphores: the facts that their services keep, and the effect of an entry on their values.
-use Rattle.std.proofs.Common.{◌≡◌, ℕ, ◌+◌, ◌-◌, ◌≤◌, true, cond, if◌then◌else◌, not, nat_lt, List, [], ◌∷◌, ◌++◌, Option, None, Some, count_by, refl, ◌∙◌, ap, arith, inl}
-use Rattle.std.proofs.lemmas.Bool.{cond_both, eq-eqb, ltb-true, not-false}
+use Rattle.std.proofs.Common.{◌≡◌, ℕ, ◌+◌, ◌-◌, ◌<◌, ◌≤◌, true, cond, if◌then◌else◌, not, nat_lt, List, [], ◌∷◌, ◌++◌, Option, None, Some, count_by, refl, ◌∙◌, ap, arith, inl}
+use Rattle.std.proofs.lemmas.Bool.{cond_both, eq-eqb, ltb-false, ltb-true, not-false}
 use Rattle.std.proofs.lemmas.List.Elements.{All-nil, All-cons}
 use Rattle.std.proofs.lemmas.List.Sums.{sum_by-append}
 use Rattle.apex_laws.specs.Terms.{Call, Entry, Queue, SemaphoreService, Timeout, Wait as ForWhat}
@@ -26,9 +26,9 @@ use Rattle.apex_machine.specs.processes.Waiters.{first_waiter}
 use Rattle.apex_machine.specs.services.Waiting.{wait_for}
 use Rattle.apex_machine.specs.services.Waking.{granted}
 use Rattle.apex_machine.proofs.Rows.{by_caller}
-use Rattle.apex_machine.proofs.Waking.{reach_granted}
-use Rattle.apex_laws.specs.AskedWaits.{Accounts, begins}
-use Rattle.apex_laws.proofs.AskedWaits.{asks_freed, awaits_at, first_awaits, frees_granted}
+use Rattle.apex_machine.proofs.Waking.{none_waits, reach_granted}
+use Rattle.apex_laws.specs.AskedWaits.{Accounts, AreHeldBack, begins}
+use Rattle.apex_laws.proofs.AskedWaits.{asks_freed, awaits_at, first_awaits, frees_granted, held_nobody, held_still, still_freed}
 use Rattle.apex_laws.proofs.Satisfied.{begins_wait, filter_all, handed_one, names_begun, woken_alone}
 use Rattle.apex_laws.proofs.Serving.{few, serves_same}
 use Rattle.apex_laws.proofs.ObjectsServe.{LawsOf, then_some}
@@ -58,6 +58,7 @@ pub accounted : (entry : SemaphoreConfig) (calls : List Call) (v : ℕ) → Hold
     → entry.initial + count_by is_signal calls - count_by is_wait calls ≡ v
 accounted entry calls v holds = omega (arith, holds.enough)
 
+-- a process that waits for a semaphore waits while its value is 0
 abbrev pub waited_semaphore : Waited semaphore_kind
 waited_semaphore = record {
   V = ℕ;
@@ -67,7 +68,7 @@ waited_semaphore = record {
   queue = queues.Semaphore;
   value = λ entry calls. entry.initial + count_by is_signal calls - count_by is_wait calls;
   Holds = HoldsSemaphore;
-  Lacks = λ entry v w. Unit {0};
+  Lacks = λ entry v w. v ≡ 0;
   object = λ entry created v. record { maximum = entry.maximum; created = created; value = v };
   reads = accounted;
   after = λ history s entry. refl;
@@ -103,20 +104,24 @@ module _ (here : Before waited_semaphore) where
   abbrev asks_for : SemaphoreService → Call
   asks_for service = call.Semaphore (KindService s service)
 
+  -- with this value no process of this roster waits for it in vain
+  abbrev HoldsBack : ℕ → Roster → Type 0
+  HoldsBack v = AreHeldBack (waited_semaphore.Lacks here.c v) queue
+
   abbrev Serves : SemaphoreService → Outcome SemaphoreObject → Type 0
   Serves service o = Served waited_semaphore here service o
 
   -- an accepted call that wakes no process
   served_accepted : (service : SemaphoreService) (v : ℕ)
       → v + count_by is_wait (asks_for service ∷ []) ≡ semaphore.value + count_by is_signal (asks_for service ∷ [])
-      → v ≤ here.c.maximum → Serves service (accepted roster (record semaphore { value = v }) [])
-  served_accepted service v balance below =
+      → v ≤ here.c.maximum → HoldsBack v roster → Serves service (accepted roster (record semaphore { value = v }) [])
+  served_accepted service v balance below held =
       served_alone waited_semaphore here service roster (Code NoError) v refl (serves_same roster here.caller _ _)
       (record {
         enough = accounts_more here.c.initial semaphore.value v (calls_before waited_semaphore here) (asks_for service ∷ []) here.keeps.holds.enough balance;
         bounded = below;
       })
-      (λ p w waits is. tt)
+      held
 
   -- a wait, by its process
   served_wait : (p : ℕ) → here.caller ≡ Process p → IsReady roster p → (timeout : Timeout)
@@ -124,9 +129,14 @@ module _ (here : Before waited_semaphore) where
       (wait_for roster semaphore p (Semaphore s) timeout))
   served_wait p by ready timeout =
       cond_both {A = Outcome SemaphoreObject} (nat_lt 0 semaphore.value) _ _ (Serves (Wait timeout))
-      (λ positive. served_accepted (Wait timeout) (semaphore.value - 1)
-      (omega (arith, ltb-true 0 _ positive)) (omega (arith, here.keeps.holds.bounded)))
-      (λ _. served_waiting waited_semaphore here p by ready (Wait timeout) (Semaphore s) refl refl (λ m is. cc) tt timeout)
+      (λ positive.
+      let more : 0 < semaphore.value = ltb-true 0 _ positive in
+      served_accepted (Wait timeout) (semaphore.value - 1)
+      (omega (arith, more)) (omega (arith, here.keeps.holds.bounded))
+      (λ q w waits is. let none : semaphore.value ≡ 0 = here.keeps.held q w waits is in omega (arith, more, none)))
+      (λ used_up.
+      let least : semaphore.value ≤ 0 = ltb-false 0 _ used_up in
+      served_waiting waited_semaphore here p by ready (Wait timeout) (Semaphore s) refl refl (λ m is. cc) (omega (arith, least)) timeout)
 
   -- a signal that is handed to the first waiter satisfies itself and then that wait
   served_woken : (p : ℕ) → first_waiter roster queue ≡ Some p → Serves Signal (accepted_with semaphore (granted None roster p))
@@ -141,13 +151,15 @@ module _ (here : Before waited_semaphore) where
       let waits = begins_wait found.0 s begun in
       let named_so : names queue found.0 ≡ true = names_begun queue at found.0 (w, found.2, first.1.queued) ∙ eq-eqb s s refl in
       let more = signal ∷ found.0 ∷ [] in
+      let after = (granted None roster p).roster in
+      let frees = frees_granted None roster p in
       record {
         serves = record {
           arrives = few (reach_granted None roster p queue refl here.scene.starts is);
-          asks = asks_freed here.caller (Some signal) roster (granted None roster p).roster (frees_granted None roster p);
+          asks = asks_freed here.caller (Some signal) roster after frees;
           woken = λ q woken. rw (woken_alone q p woken) (inl (awaits_at first.1));
         };
-        read = λ number now who. after_calls waited_semaphore here.history _ s here.c _ more semaphore.value semaphore.created
+        read = λ number now who. after_calls waited_semaphore here.history _ s here.c after more semaphore.value semaphore.created
             (rw found.1 (filter_all (names queue) true more
             (All-cons (λ c. names queue c ≡ true) signal (found.0 ∷ []) (eq-eqb s s refl)
             (All-cons (λ c. names queue c ≡ true) found.0 [] named_so (All-nil _)))))
@@ -157,13 +169,14 @@ module _ (here : Before waited_semaphore) where
                   here.keeps.holds.enough (rw (waits.0, waits.1) refl);
               bounded = here.keeps.holds.bounded;
             })
-            (λ q v waits is. tt);
+            (held_still (waited_semaphore.Lacks here.c semaphore.value) queue roster after here.keeps.held (still_freed queue roster after frees));
       }
 
   served_signal : (first : Option ℕ) → first_waiter roster queue ≡ first → Serves Signal (signal_to roster semaphore first)
   served_signal None is =
       guard waited_semaphore here Signal (not (nat_lt semaphore.value here.c.maximum)) _ _ refl (λ less.
-      served_accepted Signal (semaphore.value + 1) (omega arith) (omega (arith, ltb-true _ _ (not-false _ less))))
+      served_accepted Signal (semaphore.value + 1) (omega arith) (omega (arith, ltb-true _ _ (not-false _ less)))
+      (held_nobody (waited_semaphore.Lacks here.c (semaphore.value + 1)) queue roster (none_waits roster queue is)))
   served_signal (Some p) is = served_woken p is
 
   pub served_kind_service : (service : SemaphoreService) → Serves service (semaphore_service roster semaphore s here.caller service)

@@ -332,7 +332,7 @@ sound_opening table lawful =
         kept = record {
           semaphores = λ s h. record {
             holds = record { enough = omega arith; bounded = omega (arith, (lawful.semaphores s h).initial) };
-            held = λ p w h is. tt;
+            held = λ p w h is. absurd (nobody_asked p w h);
           };
           buffers = λ b h. record {
             holds = record { delivered = record { taken = []; many = refl; split = refl }; fits = omega arith };

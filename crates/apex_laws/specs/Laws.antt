@@ -4,7 +4,7 @@ use Rattle.std.specs.List.{filter_map}
 use Rattle.apex_laws.specs.Terms.{Entry, Event, Holding, Message, OpenWork}
 use Rattle.apex_types.specs.declared.modes.DeadlineType.TheVariants.{Hard}
 use Rattle.apex_machine.specs.declared.records.Queue.TheVariants as queues
-use Rattle.apex_machine.specs.declared.records.Wait.TheVariants.{Receive, Send, Blackboard, EventFlag, Mutex}
+use Rattle.apex_machine.specs.declared.records.Wait.TheVariants.{Semaphore, Receive, Send, Blackboard, EventFlag, Mutex}
 use Rattle.apex_machine.specs.services.Calls.{names, is_receive, sent_message}
 use Rattle.apex_machine.specs.processes.Dues.{HasNoPastDeadline, HasNoPastDue}
 use Rattle.apex_types.specs.declared.limits.TheConstants.{MOST_DEPTH}
@@ -50,8 +50,13 @@ pub record BufferIsInOrder (table : Table) (machine : Machine) (b : ℕ) : Type 
       → (record_at machine.roster p).wait ≡ Some (Send b message)
       → length (buffer_content b machine.history) ≡ (buffer_config table b).capacity
 
--- a process that waits for blackboard b or for event flag e waits only while the blackboard is empty or
--- the event flag is down
+-- a process that waits for semaphore s, for blackboard b or for event flag e waits only while the
+-- semaphore's value is 0, the blackboard is empty or the event flag is down
+abbrev pub WaitersWaitForSemaphores : Table → Machine → ℕ → Type 0
+WaitersWaitForSemaphores table machine s =
+    (p : ℕ) → (record_at machine.roster p).wait ≡ Some (Semaphore s)
+    → semaphore_value (semaphore_config table s).initial s machine.history ≡ 0
+
 abbrev pub ReadersWaitForMessages : Machine → ℕ → Type 0
 ReadersWaitForMessages machine b = (p : ℕ) → (record_at machine.roster p).wait ≡ Some (Blackboard b)
     → blackboard_message b machine.history ≡ None
@@ -63,6 +68,7 @@ WaitersWaitForEventFlags machine e =
 
 -- no process waits for an object that has what it waits for, and buffers deliver in order
 pub record NobodyWaitsInVain (table : Table) (machine : Machine) : Type 0 where
+  pub semaphores : (s : ℕ) → s < length table.semaphores → WaitersWaitForSemaphores table machine s
   pub buffers : (b : ℕ) → b < length table.buffers → BufferIsInOrder table machine b
   pub blackboards : (b : ℕ) → b < length table.blackboards → ReadersWaitForMessages machine b
   pub event_flags : (e : ℕ) → e < length table.event_flags → WaitersWaitForEventFlags machine e
