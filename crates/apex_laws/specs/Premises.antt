@@ -1,13 +1,13 @@
 -- The premises of a service and of a tick: the things that are named are there, and stamps are
 -- left.
-use Rattle.std.specs.Prelude.{◌*◌, ◌≡◌, ℕ, ◌<ℤ◌, ◌+ℤ◌, count_by, length, pos}
+use Rattle.std.specs.Prelude.{◌*◌, ◌≡◌, ℕ, count_by, length}
 use Rattle.apex_laws.specs.Terms.{Call}
 use Rattle.apex_types.specs.declared.calls.Call.TheVariants.{Partition, Process as ToProcess, Caller as ToCaller, Time, Semaphore, Buffer, Blackboard, EventFlag, Mutex, Work}
 use Rattle.apex_machine.specs.processes.Dues.{is_due_at}
 use Rattle.apex_types.specs.declared.limits.TheConstants.{MOST_PROCESSES}
-use Rattle.apex_types.specs.Limits.{most_stamps}
 use Rattle.apex_machine.specs.Deeds.{Objects}
 use Rattle.apex_machine.specs.processes.Roster.{Roster}
+use Rattle.apex_machine.specs.processes.Stamps.{HasStampsFor}
 use Rattle.apex_machine.specs.table.Table.{Table, IsKnownObject}
 
 -- if the call names a thing, it is one of these objects
@@ -38,9 +38,8 @@ abbrev pub most_given : ℕ
 most_given = 3 * MOST_PROCESSES
 
 -- there are stamps left for every process
-pub record HasStampsForAll (roster : Roster) : Type 0 where
-  pub young : (roster.young +ℤ pos MOST_PROCESSES) <ℤ pos most_stamps
-  pub old : pos MOST_PROCESSES <ℤ (roster.old +ℤ pos most_stamps)
+abbrev pub HasStampsForAll : Roster → Type 0
+HasStampsForAll = HasStampsFor MOST_PROCESSES
 
 -- the number of processes that are due now
 abbrev pub due_count : Roster → ℕ
