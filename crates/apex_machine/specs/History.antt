@@ -1,4 +1,4 @@
--- The things that a history created, and the next step of its init list.
+-- The things that a history created, and the number of steps that its init list made.
 use Rattle.std.specs.Prelude.{ℕ, Bool, List, Option, ◌&&◌, count_by}
 use Rattle.std.specs.List.{list_any}
 use Rattle.std.specs.Option.{option_and_then}
@@ -6,7 +6,6 @@ use Rattle.apex_machine.specs.Terms.{Call, Entry}
 use Rattle.apex_machine.specs.services.Callers.{is_by_init}
 use Rattle.apex_machine.specs.services.Calls.{is_place}
 use Rattle.apex_machine.specs.services.Satisfied.{is_accepted}
-use Rattle.apex_machine.specs.table.Table.{Table, call_in}
 
 -- the entry created thing i; `created` gives the thing that a call creates
 abbrev pub creates : (Call → Option ℕ) → ℕ → Entry → Bool
@@ -19,7 +18,3 @@ is_created created i history = list_any (creates created i) history
 -- the number of entries that the init list made
 abbrev pub init_count : List Entry → ℕ
 init_count history = count_by (λ (e : Entry). is_by_init e.process) history
-
--- the call of the next init step, whose place is the number of entries that the init list made
-abbrev pub next_init_call : Table → List Entry → Option Call
-next_init_call table history = call_in table.init (init_count history)
