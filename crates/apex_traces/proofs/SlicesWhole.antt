@@ -1,11 +1,12 @@
 -- The texts of a slice's end and of its beginning, put together.
-use Rattle.std.proofs.Common.{◌≡◌, ◌∙◌, ℕ, List, ◌++◌, ap, sym, append_assoc, inl, inr, codes, decimal, arith}
+use Rattle.std.proofs.Common.{◌≡◌, ◌∙◌, ℕ, List, ◌++◌, ap, sym, append_assoc, codes, decimal, arith}
 use Rattle.std.proofs.lemmas.Fmt.{decimal_digit}
 use Rattle.apex_traces.specs.Times.{time_text, time_back}
 use Rattle.apex_json.specs.Strings.{json_text}
 use Rattle.apex_traces.specs.Calls.{said_text}
-use Rattle.apex_traces.specs.Stamps.{IsGroup, begin_back, begin_front, end_front}
+use Rattle.apex_traces.specs.Stamps.{begin_back, begin_front, end_front, group_number}
 use Rattle.apex_traces.specs.Trace.{begin_text, end_text}
+use Rattle.apex_traces.specs.declared.stamps.Group.TheVariants.{Cores, Processes, Objects}
 use Rattle.apex_traces.specs.declared.trace.Spot.{Spot}
 
 one : decimal 1 ≡ codes "1"
@@ -17,40 +18,28 @@ two = decimal_digit 2 (omega arith)
 three : decimal 3 ≡ codes "3"
 three = decimal_digit 3 (omega arith)
 
--- the digit of a group in a text
-in_front : (front back digit : List ℕ) (group : ℕ) → decimal group ≡ digit
-    → front ++ digit ++ back ≡ front ++ decimal group ++ back
-in_front front back digit group is = ap (λ l. front ++ l ++ back) (sym is)
+-- the digit of a number in a text
+in_front : (front back digit : List ℕ) (number : ℕ) → decimal number ≡ digit
+    → front ++ digit ++ back ≡ front ++ decimal number ++ back
+in_front front back digit number is = ap (λ l. front ++ l ++ back) (sym is)
 
-pub end_front_first : (group : ℕ) → group ≡ 1 → codes ",\n{\"ph\":\"E\",\"pid\":1,\"tid\":" ≡ end_front group
-end_front_first group is =
-    in_front (codes ",\n{\"ph\":\"E\",\"pid\":") (codes ",\"tid\":") (codes "1") group (ap decimal is ∙ one)
+pub end_front_cores : codes ",\n{\"ph\":\"E\",\"pid\":1,\"tid\":" ≡ end_front Cores
+end_front_cores = in_front (codes ",\n{\"ph\":\"E\",\"pid\":") (codes ",\"tid\":") (codes "1") 1 one
 
-pub end_front_second : (group : ℕ) → group ≡ 2 → codes ",\n{\"ph\":\"E\",\"pid\":2,\"tid\":" ≡ end_front group
-end_front_second group is =
-    in_front (codes ",\n{\"ph\":\"E\",\"pid\":") (codes ",\"tid\":") (codes "2") group (ap decimal is ∙ two)
+pub end_front_processes : codes ",\n{\"ph\":\"E\",\"pid\":2,\"tid\":" ≡ end_front Processes
+end_front_processes = in_front (codes ",\n{\"ph\":\"E\",\"pid\":") (codes ",\"tid\":") (codes "2") 2 two
 
-pub end_front_third : (group : ℕ) → IsGroup group → (group ≡ 1 → ⊥) → (group ≡ 2 → ⊥)
-    → codes ",\n{\"ph\":\"E\",\"pid\":3,\"tid\":" ≡ end_front group
-end_front_third group (inl first) not_first not_second = absurd (not_first first)
-end_front_third group (inr (inl second)) not_first not_second = absurd (not_second second)
-end_front_third group (inr (inr is)) not_first not_second =
-    in_front (codes ",\n{\"ph\":\"E\",\"pid\":") (codes ",\"tid\":") (codes "3") group (ap decimal is ∙ three)
+pub end_front_objects : codes ",\n{\"ph\":\"E\",\"pid\":3,\"tid\":" ≡ end_front Objects
+end_front_objects = in_front (codes ",\n{\"ph\":\"E\",\"pid\":") (codes ",\"tid\":") (codes "3") 3 three
 
-pub begin_front_first : (group : ℕ) → group ≡ 1 → codes ",\n{\"ph\":\"B\",\"pid\":1,\"tid\":" ≡ begin_front group
-begin_front_first group is =
-    in_front (codes ",\n{\"ph\":\"B\",\"pid\":") (codes ",\"tid\":") (codes "1") group (ap decimal is ∙ one)
+pub begin_front_cores : codes ",\n{\"ph\":\"B\",\"pid\":1,\"tid\":" ≡ begin_front Cores
+begin_front_cores = in_front (codes ",\n{\"ph\":\"B\",\"pid\":") (codes ",\"tid\":") (codes "1") 1 one
 
-pub begin_front_second : (group : ℕ) → group ≡ 2 → codes ",\n{\"ph\":\"B\",\"pid\":2,\"tid\":" ≡ begin_front group
-begin_front_second group is =
-    in_front (codes ",\n{\"ph\":\"B\",\"pid\":") (codes ",\"tid\":") (codes "2") group (ap decimal is ∙ two)
+pub begin_front_processes : codes ",\n{\"ph\":\"B\",\"pid\":2,\"tid\":" ≡ begin_front Processes
+begin_front_processes = in_front (codes ",\n{\"ph\":\"B\",\"pid\":") (codes ",\"tid\":") (codes "2") 2 two
 
-pub begin_front_third : (group : ℕ) → IsGroup group → (group ≡ 1 → ⊥) → (group ≡ 2 → ⊥)
-    → codes ",\n{\"ph\":\"B\",\"pid\":3,\"tid\":" ≡ begin_front group
-begin_front_third group (inl first) not_first not_second = absurd (not_first first)
-begin_front_third group (inr (inl second)) not_first not_second = absurd (not_second second)
-begin_front_third group (inr (inr is)) not_first not_second =
-    in_front (codes ",\n{\"ph\":\"B\",\"pid\":") (codes ",\"tid\":") (codes "3") group (ap decimal is ∙ three)
+pub begin_front_objects : codes ",\n{\"ph\":\"B\",\"pid\":3,\"tid\":" ≡ begin_front Objects
+begin_front_objects = in_front (codes ",\n{\"ph\":\"B\",\"pid\":") (codes ",\"tid\":") (codes "3") 3 three
 
 -- three texts behind another one
 behind : (text a b c after first second : List ℕ) → first ≡ text ++ a → second ≡ first ++ b → after ≡ second ++ c
@@ -79,7 +68,7 @@ end_whole spot text first second third after w x y z =
     let e = codes ",\n{\"ph\":\"E\",\"pid\":" in
     let tid = codes ",\"tid\":" in
     let ts = codes ",\"ts\":" in
-    let group = decimal spot.group in
+    let group = decimal (group_number spot.group) in
     let track = decimal spot.track in
     let time = time_text spot.time in
     let rest : time_back spot.time ++ codes "}" ≡ ts ++ (time ++ codes "}") = append_assoc ts time (codes "}") in
@@ -100,7 +89,7 @@ begin_whole spot text first second third after w x y z =
     let tid = codes ",\"tid\":" in
     let ts = codes ",\"ts\":" in
     let name = codes ",\"name\":\"" in
-    let group = decimal spot.group in
+    let group = decimal (group_number spot.group) in
     let track = decimal spot.track in
     let time = time_text spot.time in
     let rest : time_back spot.time ++ name ≡ ts ++ (time ++ name) = append_assoc ts time name in

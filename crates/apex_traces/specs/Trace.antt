@@ -13,7 +13,7 @@ use Rattle.apex_traces.specs.Counters.{counters_text}
 use Rattle.apex_moments.specs.Counts.{Counts, no_counts}
 use Rattle.apex_traces.specs.Times.{time_text}
 use Rattle.apex_moments.specs.Moments.{Shown, no_cell, none_shown}
-use Rattle.apex_traces.specs.Stamps.{begin_back}
+use Rattle.apex_traces.specs.Stamps.{begin_back, group_number}
 use Rattle.apex_moments.specs.Texts.{texts}
 use Rattle.apex_moments.specs.Words.{profile_number}
 use Rattle.apex_moments.specs.Terms.{Entry, Notice}
@@ -22,6 +22,7 @@ use Rattle.apex_traces.specs.Beings.{being_in, being_name, is_begun, same_being}
 use Rattle.apex_traces.specs.declared.beings.Being.{Being}
 use Rattle.apex_json.specs.Strings.{json_text}
 use Rattle.apex_traces.specs.declared.calls.Span.{Span}
+use Rattle.apex_traces.specs.declared.stamps.Group.TheVariants.{Cores, Processes, Objects}
 use Rattle.apex_traces.specs.declared.trace.Spot.{Spot}
 
 -- the name of a core's track, and its place among those of the cores
@@ -67,13 +68,13 @@ head_text table first =
 -- the end of a slice
 unfoldable pub end_text : Spot → List ℕ
 end_text spot = texts (
-    codes ",\n{\"ph\":\"E\",\"pid\":" ∷ decimal spot.group ∷ codes ",\"tid\":" ∷ decimal spot.track
+    codes ",\n{\"ph\":\"E\",\"pid\":" ∷ decimal (group_number spot.group) ∷ codes ",\"tid\":" ∷ decimal spot.track
     ∷ codes ",\"ts\":" ∷ time_text spot.time ∷ codes "}" ∷ [])
 
 -- the beginning of a slice, up to its name
 unfoldable pub begin_text : Spot → List ℕ
 begin_text spot = texts (
-    codes ",\n{\"ph\":\"B\",\"pid\":" ∷ decimal spot.group ∷ codes ",\"tid\":" ∷ decimal spot.track
+    codes ",\n{\"ph\":\"B\",\"pid\":" ∷ decimal (group_number spot.group) ∷ codes ",\"tid\":" ∷ decimal spot.track
     ∷ codes ",\"ts\":" ∷ time_text spot.time ∷ codes ",\"name\":\"" ∷ [])
 
 -- the name of the slice of a process that a core runs
@@ -135,15 +136,15 @@ process_text table spot before after =
 
 -- the track of a core
 abbrev pub core_spot : ℕ → ℕ → Spot
-core_spot core time = record { group = 1; track = core; time = time }
+core_spot core time = record { group = Cores; track = core; time = time }
 
 -- the track of process p
 abbrev pub process_spot : ℕ → ℕ → Spot
-process_spot p time = record { group = 2; track = p + 1; time = time }
+process_spot p time = record { group = Processes; track = p + 1; time = time }
 
 -- the track of mutex m
 abbrev pub mutex_spot : ℕ → ℕ → Spot
-mutex_spot m time = record { group = 3; track = m + 1; time = time }
+mutex_spot m time = record { group = Objects; track = m + 1; time = time }
 
 -- the changes on the track of this core
 abbrev pub core_at : Table → ℕ → Shown → Shown → ℕ → List ℕ

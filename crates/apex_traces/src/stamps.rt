@@ -1,7 +1,7 @@
 //! The texts of a slice's end and of its beginning, before the number of its track and behind it.
 ghost use Rattle.std.specs.Prelude.{◌≡◌, ◌+◌, ◌≤◌, ◌++◌, length};
 ghost use Rattle.arrayvec.specs.ArrayVec.{array_vec_len};
-ghost use Rattle.apex_traces.specs.Stamps.{IsGroup, begin_front, end_front};
+ghost use Rattle.apex_traces.specs.Stamps.{begin_front, end_front};
 ghost use Rattle.apex_traces.specs.Times.{time_back};
 ghost use Rattle.apex_traces.specs.declared.pieces.TheConstants.{PIECE_ROOM};
 ghost use Rattle.apex_traces.specs.declared.stamps.TheConstants.{FRONT, TIMED};
@@ -10,6 +10,14 @@ use crate::bytes::Bytes;
 use crate::pieces::{Piece, add_text};
 use crate::times::{TIME_ROOM, add_time};
 use std::marker::Model;
+
+/// A group of tracks that slices are on.
+#[derive(Clone, Copy)]
+pub(crate) enum Group {
+    Cores,
+    Processes,
+    Objects,
+}
 
 /// The bytes before the number of a track.
 pub(crate) const FRONT: usize = 26;
@@ -82,38 +90,28 @@ pub(crate) fn add_stamp(piece: &mut Piece, stamp: &Timed)
 
 /// Adds what is before the number of a track of a group at the end of a slice.
 #[inline(always)]
-pub(crate) fn add_end_front(piece: &mut Piece, group: u8)
-    requires group { IsGroup group }
+pub(crate) fn add_end_front(piece: &mut Piece, group: Group)
     requires room { array_vec_len piece.old + FRONT ≤ PIECE_ROOM }
     ensures text { piece.new.items ≡ piece.old.items ++ end_front group }
     ensures len { array_vec_len piece.new ≡ array_vec_len piece.old + FRONT }
 {
-    if group == 1 {
-        add_text(piece, *b",\n{\"ph\":\"E\",\"pid\":1,\"tid\":");
-        return;
+    match group {
+        Group::Cores => add_text(piece, *b",\n{\"ph\":\"E\",\"pid\":1,\"tid\":"),
+        Group::Processes => add_text(piece, *b",\n{\"ph\":\"E\",\"pid\":2,\"tid\":"),
+        Group::Objects => add_text(piece, *b",\n{\"ph\":\"E\",\"pid\":3,\"tid\":"),
     }
-    if group == 2 {
-        add_text(piece, *b",\n{\"ph\":\"E\",\"pid\":2,\"tid\":");
-        return;
-    }
-    add_text(piece, *b",\n{\"ph\":\"E\",\"pid\":3,\"tid\":");
 }
 
 /// Adds what is before the number of a track of a group at the beginning of a slice.
 #[inline(always)]
-pub(crate) fn add_begin_front(piece: &mut Piece, group: u8)
-    requires group { IsGroup group }
+pub(crate) fn add_begin_front(piece: &mut Piece, group: Group)
     requires room { array_vec_len piece.old + FRONT ≤ PIECE_ROOM }
     ensures text { piece.new.items ≡ piece.old.items ++ begin_front group }
     ensures len { array_vec_len piece.new ≡ array_vec_len piece.old + FRONT }
 {
-    if group == 1 {
-        add_text(piece, *b",\n{\"ph\":\"B\",\"pid\":1,\"tid\":");
-        return;
+    match group {
+        Group::Cores => add_text(piece, *b",\n{\"ph\":\"B\",\"pid\":1,\"tid\":"),
+        Group::Processes => add_text(piece, *b",\n{\"ph\":\"B\",\"pid\":2,\"tid\":"),
+        Group::Objects => add_text(piece, *b",\n{\"ph\":\"B\",\"pid\":3,\"tid\":"),
     }
-    if group == 2 {
-        add_text(piece, *b",\n{\"ph\":\"B\",\"pid\":2,\"tid\":");
-        return;
-    }
-    add_text(piece, *b",\n{\"ph\":\"B\",\"pid\":3,\"tid\":");
 }

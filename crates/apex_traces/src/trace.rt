@@ -25,7 +25,7 @@ use crate::counters::put_first_counts;
 use crate::escapes::add_escaped;
 use crate::mutexes::{add_mutex_ends, put_mutex_names};
 use crate::pieces::{ARROW, CALL, DIGITS, MARK, Piece, TRACK, add, add_text, add_track};
-use crate::stamps::{FRONT, TIMED, Timed, add_begin_front, add_end_front, add_stamp};
+use crate::stamps::{FRONT, Group, TIMED, Timed, add_begin_front, add_end_front, add_stamp};
 use crate::tracks::{Tracks, is_still, track_at, track_by};
 use apex_configs::Table;
 use apex_dispatch::Situation;
@@ -40,8 +40,7 @@ use std::alloc::AllocError;
 /// The place of a slice or a mark in a trace: its group, its track and its time.
 #[derive(Clone, Copy)]
 pub(crate) struct Spot {
-    /// 1 of the cores, 2 of the processes, 3 of the objects.
-    group: u8,
+    group: Group,
     track: u32,
     /// In nanoseconds.
     time: u64,
@@ -365,7 +364,7 @@ fn core_spot(core: CoreId, time: u64) -> Spot
     ensures { result ≡ trace.core_spot core time }
 {
     Spot {
-        group: 1,
+        group: Group::Cores,
         track: u32::from(core.number()),
         time,
     }
@@ -376,7 +375,7 @@ fn process_spot(process: ProcessId, time: u64) -> Spot
     ensures { result ≡ trace.process_spot process time }
 {
     Spot {
-        group: 2,
+        group: Group::Processes,
         track: process.number(),
         time,
     }
@@ -387,7 +386,7 @@ pub(crate) fn mutex_spot(mutex: MutexId, time: u64) -> Spot
     ensures { result ≡ trace.mutex_spot mutex time }
 {
     Spot {
-        group: 3,
+        group: Group::Objects,
         track: mutex.number(),
         time,
     }

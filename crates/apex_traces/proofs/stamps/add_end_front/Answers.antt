@@ -1,16 +1,20 @@
 -- The digit of the group is in the text.
-use Rattle.std.proofs.Common.{◌∙◌, ◌++◌, ap}
-use Rattle.apex_traces.proofs.SlicesWhole.{end_front_first, end_front_second, end_front_third}
+use Rattle.std.proofs.Common.{◌∙◌, ◌++◌, ap, sym}
+use Rattle.apex_traces.specs.Stamps.{end_front}
+use Rattle.apex_traces.proofs.SlicesWhole.{end_front_cores, end_front_objects, end_front_processes}
 use Rattle.apex_traces.proofs.stamps.add_end_front.Goals as goal
 
-pub returns-then-group-eq1-clause-text : goal.returns-then-group-eq1-clause-text
-returns-then-group-eq1-clause-text c =
-    c.add_text.ensures.text ∙ ap (λ l. c.args.piece.now.items ++ l) (end_front_first c.args.group c.if-group-eq1.true)
+pub returns-in-Cores-clause-text : goal.returns-in-Cores-clause-text
+returns-in-Cores-clause-text c =
+    c.add_text.ensures.text
+    ∙ ap (λ l. c.args.piece.now.items ++ l) (end_front_cores ∙ ap end_front (sym c.in-Cores.is))
 
-pub returns-then-group-eq2-clause-text : goal.returns-then-group-eq2-clause-text
-returns-then-group-eq2-clause-text c =
-    c.add_text-then-group-eq2.ensures.text ∙ ap (λ l. c.args.piece.now.items ++ l) (end_front_second c.args.group c.if-group-eq2.true)
+pub returns-in-Processes-clause-text : goal.returns-in-Processes-clause-text
+returns-in-Processes-clause-text c =
+    c.add_text-in-Processes.ensures.text
+    ∙ ap (λ l. c.args.piece.now.items ++ l) (end_front_processes ∙ ap end_front (sym c.in-Processes.is))
 
-pub returns-clause-text : goal.returns-clause-text
-returns-clause-text c =
-    c.add_text-2.ensures.text ∙ ap (λ l. c.args.piece.now.items ++ l) (end_front_third c.args.group c.requires.group c.if-group-eq1.false c.if-group-eq2.false)
+pub returns-in-Objects-clause-text : goal.returns-in-Objects-clause-text
+returns-in-Objects-clause-text c =
+    c.add_text-in-Objects.ensures.text
+    ∙ ap (λ l. c.args.piece.now.items ++ l) (end_front_objects ∙ ap end_front (sym c.in-Objects.is))

@@ -6,6 +6,6 @@ use Rattle.apex_traces.proofs.trace.add_end.Goals as goal
 
 pub returns-clause-text : goal.returns-clause-text
 returns-clause-text c =
-    let back = ap time_back c.requires.stamps.1 in
+    let back = ap time_back c.requires.stamps in
     end_whole c.args.spot c.args.piece.now.items c.add_end_front.new.piece.items c.add_track.new.piece.items c.add_stamp.new.piece.items c.add_text.new.piece.items
     c.add_end_front.ensures.text c.add_track.ensures.text (rw back at c.add_stamp.ensures.text) c.add_text.ensures.text
