@@ -6,7 +6,7 @@ use Rattle.apex_moments.specs.Instants.{instant_after, next_instant, time_at}
 use Rattle.apex_moments.specs.Moments.{Column, moment_in, picture}
 use Rattle.apex_pictures.specs.Svg as svg
 use Rattle.apex_traces.specs.Trace as trace
-use Rattle.apex_traces.specs.declared.calls.Span.{Span}
+use Rattle.apex_traces.specs.declared.calls.Lasting.{Lasting}
 use Rattle.apex_moments.specs.declared.instants.Instant.{Instant}
 use Rattle.apex_drawing.specs.declared.styles.Style.{Style}
 use Rattle.apex_drawing.specs.declared.styles.Style.TheVariants.{Svg, Trace}
@@ -17,14 +17,14 @@ head_text (Svg frame) table = svg.head_text frame
 head_text (Trace tick) table = trace.head_text table (moment_in table (opening table))
 
 -- the times of two instants on the axis of a trace, for ticks of this length
-abbrev pub span_of : ℕ → Instant → Instant → Span
-span_of tick begun ended = record { begin = time_at tick begun; end = time_at tick ended }
+abbrev pub lasting_of : ℕ → Instant → Instant → Lasting
+lasting_of tick begun ended = record { begin = time_at tick begun; end = time_at tick ended }
 
 -- a column
 abbrev pub column_text : Style → Table → Column → List ℕ
 column_text (Svg frame) table column = svg.column_text table frame column.entry column.after
 column_text (Trace tick) table column =
-    trace.column_text table (span_of tick column.begun column.instant) column.before column.entry
+    trace.column_text table (lasting_of tick column.begun column.instant) column.before column.entry
     column.after
 
 -- the end of a trace: the instant that the next moment would have now

@@ -15,7 +15,7 @@ ghost use Rattle.apex_drawing.specs.Courses.{IsAt};
 ghost use Rattle.apex_drawing.specs.declared.drawing.DrawFault.TheVariants.{Memory};
 ghost use Rattle.apex_drawing.specs.Drawing.{CountsDrawing, Grows};
 ghost use Rattle.apex_drawing.specs.Pages.{pending};
-ghost use Rattle.apex_drawing.specs.Pictures.{column_text, foot_text, head_text, picture_text, span_of};
+ghost use Rattle.apex_drawing.specs.Pictures.{column_text, foot_text, head_text, lasting_of, picture_text};
 ghost use Rattle.apex_pictures.specs.Svg as svg_text;
 ghost use Rattle.apex_drawing.specs.Styles.{Fits, Follows, HasTracks};
 ghost use Rattle.apex_traces.specs.Tracks.{bare};
@@ -32,7 +32,7 @@ use apex_moments::{Instant, moment_in};
 use apex_pictures::Frame;
 use apex_scales::TickLength;
 use apex_store::Store;
-use apex_traces::{Span, Tracks, tracks_in};
+use apex_traces::{Lasting, Tracks, tracks_in};
 use apex_types::{Event, LentEntry, Notices};
 use std::alloc::{AllocError, Global};
 use std::io::Write;
@@ -111,11 +111,11 @@ fn add_foot<S: Store>(
 }
 
 /// The times of two instants, for ticks of this length.
-fn span_of(tick: TickLength, begun: Instant, ended: Instant) -> Span
+fn lasting_of(tick: TickLength, begun: Instant, ended: Instant) -> Lasting
     requires times { (begun.now ≤ latest) × (ended.now ≤ latest) }
-    ensures { result ≡ span_of tick begun ended }
+    ensures { result ≡ lasting_of tick begun ended }
 {
-    Span {
+    Lasting {
         begin: begun.time(tick),
         end: ended.time(tick),
     }
@@ -177,8 +177,8 @@ fn add_column<S: Store>(
             put_svg_column(&mut page.text, frame, table, situation, entry)
         }
         Style::Trace(tick) => {
-            let span = span_of(*tick, begun, instant);
-            apex_traces::add_column(&mut page.columns, table, situation, span, entry, shown);
+            let lasting = lasting_of(*tick, begun, instant);
+            apex_traces::add_column(&mut page.columns, table, situation, lasting, entry, shown);
             Ok(())
         }
     }

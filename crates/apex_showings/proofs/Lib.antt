@@ -1,2 +1,2 @@
 pub mod FaultPlaces
-pub mod Spans
+pub mod Ranges

@@ -6,7 +6,7 @@ use Rattle.apex_types.specs.declared.entries.Entry.{Entry}
 use Rattle.apex_showings.specs.declared.windows.Bound.{Bound}
 use Rattle.apex_showings.specs.declared.windows.Bound.TheVariants as bound
 use Rattle.apex_showings.specs.declared.windows.EmptyWindow.{EmptyWindow}
-use Rattle.apex_showings.specs.declared.windows.Span.{Span}
+use Rattle.apex_showings.specs.declared.windows.EntryRange.{EntryRange}
 use Rattle.apex_showings.specs.declared.windows.Window.{Window}
 
 -- an entry is not before a bound: its number, or its time, is at least the bound's
@@ -41,20 +41,20 @@ last_number entry [] = entry.number
 last_number entry (next ∷ others) = last_number next others
 
 -- the numbers of the first of these entries and of the last one; none if there is no entry
-abbrev pub span_of : List Entry → Option Span
-span_of [] = None
-span_of (first ∷ others) =
+abbrev pub range_of : List Entry → Option EntryRange
+range_of [] = None
+range_of (first ∷ others) =
     Some (record { first = first.number; last = last_number first others })
 
 -- the numbers of the first entry of a window and of the last one; none if the history has no entry in
 -- it
-abbrev pub span_in : Window → List Entry → Option Span
-span_in window history = span_of (entries_in window history)
+abbrev pub range_in : Window → List Entry → Option EntryRange
+range_in window history = range_of (entries_in window history)
 
--- a span, up to this number
-abbrev pub widened : Option Span → ℕ → Span
+-- a range, up to this number
+abbrev pub widened : Option EntryRange → ℕ → EntryRange
 widened None number = record { first = number; last = number }
-widened (Some span) number = record { first = span.first; last = number }
+widened (Some range) number = record { first = range.first; last = number }
 
 -- a window, with the number of entries of a machine's history and its time, and with idle entries folded
 -- or not

@@ -7,4 +7,4 @@ mod windows;
 
 pub use schedules::{BadSchedule, ItemsFault, Reason, read_items};
 pub use showings::{Chart, Listing, Picture, RunSource, Showing, View};
-pub use windows::{Bound, EmptyWindow, Span, Window};
+pub use windows::{Bound, EmptyWindow, EntryRange, Window};

@@ -1,6 +1,6 @@
 //! The window of a history: its entries from a bound to a bound.
 ghost use Rattle.std.specs.Prelude.{◌≡◌};
-ghost use Rattle.apex_showings.specs.Windows.{empty_in, has_time, is_from, is_in, is_to, span_in, widened};
+ghost use Rattle.apex_showings.specs.Windows.{empty_in, has_time, is_from, is_in, is_to, range_in, widened};
 
 use apex_dispatch::Kernel;
 use apex_store::Store;
@@ -26,8 +26,7 @@ pub struct Window {
 
 /// The numbers of the first entry of a window and of the last one.
 #[derive(Clone, Copy)]
-pub struct Span {
-    /// The number of the first entry in the history, counted from 1.
+pub struct EntryRange {
     pub first: u32,
     /// The number of the last entry, which is in the window, too.
     pub last: u32,
@@ -66,16 +65,16 @@ fn is_to(bound: Bound, entry: &LentEntry<'_>) -> bool
     }
 }
 
-/// The span, up to the number of this entry.
-fn widened(span: Option<Span>, entry: &LentEntry<'_>) -> Span
-    ensures { result ≡ widened span entry.entry.now.number }
+/// The range, up to the number of this entry.
+fn widened(range: Option<EntryRange>, entry: &LentEntry<'_>) -> EntryRange
+    ensures { result ≡ widened range entry.entry.now.number }
 {
-    match span {
-        Some(span) => Span {
-            first: span.first,
+    match range {
+        Some(range) => EntryRange {
+            first: range.first,
             last: entry.number,
         },
-        None => Span {
+        None => EntryRange {
             first: entry.number,
             last: entry.number,
         },
@@ -99,16 +98,16 @@ impl Window {
 
     /// The numbers of the first entry of a kernel's history that is in the window, and of the last
     /// one. None if none is.
-    pub fn span_in<S: Store>(self, kernel: &Kernel<S>) -> Option<Span>
-        ensures { result ≡ span_in self kernel.now.machine.history }
+    pub fn range_in<S: Store>(self, kernel: &Kernel<S>) -> Option<EntryRange>
+        ensures { result ≡ range_in self kernel.now.machine.history }
     {
-        let mut span = None;
+        let mut range = None;
         for entry in kernel.entries() {
             if self.has(&entry) {
-                span = Some(widened(span, &entry));
+                range = Some(widened(range, &entry));
             }
         }
-        span
+        range
     }
 
     /// The window, in which a kernel's history has no entry, or none but idle ones if these are folded.

@@ -21,7 +21,7 @@ use Rattle.apex_moments.specs.declared.moments.Cell.{Cell}
 use Rattle.apex_traces.specs.Trace as trace
 use Rattle.apex_traces.specs.Tracks.{bare, bare_cell, bare_cells, cell_on, track_of}
 use Rattle.apex_moments.specs.Words.{notice_word}
-use Rattle.apex_traces.specs.declared.calls.Span.{Span}
+use Rattle.apex_traces.specs.declared.calls.Lasting.{Lasting}
 use Rattle.apex_traces.specs.Beings.{being_in, being_of, is_begun, same_being}
 use Rattle.apex_traces.specs.declared.beings.Being.{Being}
 use Rattle.apex_traces.specs.declared.beings.Being.TheVariants.{Dormant, Ready, Running, Waiting, Normal, Start, Time, Period, Semaphore, Buffer, Blackboard, EventFlag, Mutex}
@@ -140,16 +140,16 @@ head_same time one other same id (Some notice) =
     ap (head_to time id (notice_word notice)) (goal_same one other same (roused notice))
 
 -- the slice of an entry and the beginnings of its arrows
-pub call_same : (table : Table) (span : Span) (entry : Entry) (one other : Shown)
+pub call_same : (table : Table) (lasting : Lasting) (entry : Entry) (one other : Shown)
     → ((p : ℕ) → has_slice one p ≡ has_slice other p)
-    → trace.call_text table span entry one ≡ trace.call_text table span entry other
-call_same table span entry one other same =
+    → trace.call_text table lasting entry one ≡ trace.call_text table lasting entry other
+call_same table lasting entry one other same =
     let caller = entry.process in
     let number = entry.number in
     let notices = entry.notices in
-    ap (λ l. call_of table span entry ++ l)
-    (texts_same (tail_at caller span.begin one number notices) (tail_at caller span.begin other number notices) (length notices)
-    (λ i. tail_same caller span.begin one other same (arrow_id number i) (slice_get notices i)))
+    ap (λ l. call_of table lasting entry ++ l)
+    (texts_same (tail_at caller lasting.begin one number notices) (tail_at caller lasting.begin other number notices) (length notices)
+    (λ i. tail_same caller lasting.begin one other same (arrow_id number i) (slice_get notices i)))
 
 -- the marks of an entry's notices and the ends of its arrows
 pub notices_same : (time : ℕ) (entry : Entry) (one other : Shown) → ((p : ℕ) → has_slice one p ≡ has_slice other p)
@@ -162,20 +162,20 @@ notices_same time entry one other same =
     (λ i. head_same time one other same (arrow_id number i) (slice_get notices i)))
 
 -- the parts of a column, one behind the other
-pub column_whole : (table : Table) (span : Span) (before : Shown) (entry : Entry) (after : Shown)
+pub column_whole : (table : Table) (lasting : Lasting) (before : Shown) (entry : Entry) (after : Shown)
     (text one two three four five : List ℕ)
-    → one ≡ text ++ trace.call_text table span entry after
-    → two ≡ one ++ texts_of (trace.core_at table span.end before after) table.cores
-    → three ≡ two ++ texts_of (trace.process_at table span.end before after) (length table.processes)
-    → four ≡ three ++ objects_text table span.end before.counts after.counts
-    → five ≡ four ++ trace.notices_text span.end entry after
-    → five ≡ text ++ trace.column_text table span before entry after
-column_whole table span before entry after text one two three four five u v w x y =
-    let call = trace.call_text table span entry after in
-    let cores = texts_of (trace.core_at table span.end before after) table.cores in
-    let processes = texts_of (trace.process_at table span.end before after) (length table.processes) in
-    let objects = objects_text table span.end before.counts after.counts in
-    let notices = trace.notices_text span.end entry after in
+    → one ≡ text ++ trace.call_text table lasting entry after
+    → two ≡ one ++ texts_of (trace.core_at table lasting.end before after) table.cores
+    → three ≡ two ++ texts_of (trace.process_at table lasting.end before after) (length table.processes)
+    → four ≡ three ++ objects_text table lasting.end before.counts after.counts
+    → five ≡ four ++ trace.notices_text lasting.end entry after
+    → five ≡ text ++ trace.column_text table lasting before entry after
+column_whole table lasting before entry after text one two three four five u v w x y =
+    let call = trace.call_text table lasting entry after in
+    let cores = texts_of (trace.core_at table lasting.end before after) table.cores in
+    let processes = texts_of (trace.process_at table lasting.end before after) (length table.processes) in
+    let objects = objects_text table lasting.end before.counts after.counts in
+    let notices = trace.notices_text lasting.end entry after in
     let changed = call ++ (cores ++ processes) in
     let first = w ∙ ap (λ l. l ++ processes) (v ∙ ap (λ l. l ++ cores) u)
     ∙ append_assoc (text ++ call) cores processes ∙ append_assoc text call (cores ++ processes) in
@@ -183,17 +183,17 @@ column_whole table span before entry after text one two three four five u v w x 
     ∙ append_assoc text (changed ++ objects) notices
 
 -- the text of a column
-pub column_same : (table : Table) (span : Span) (before : Shown) (entry : Entry) (after : Shown)
-    → trace.column_text table span (bare before) entry (bare after) ≡ trace.column_text table span before entry after
-column_same table span before entry after =
-    let objects = objects_text table span.end before.counts after.counts in
-    let notices = trace.notices_text span.end entry (bare after) in
-    ap (λ l. l ++ trace.changes_text table span.end (bare before) (bare after) ++ objects ++ notices)
-    (call_same table span entry (bare after) after (slice_same after))
-    ∙ ap (λ l. trace.call_text table span entry after ++ l ++ objects ++ notices)
-    (changes_same table span.end before after)
-    ∙ ap (λ l. trace.call_text table span entry after ++ trace.changes_text table span.end before after ++ objects ++ l)
-    (notices_same span.end entry (bare after) after (slice_same after))
+pub column_same : (table : Table) (lasting : Lasting) (before : Shown) (entry : Entry) (after : Shown)
+    → trace.column_text table lasting (bare before) entry (bare after) ≡ trace.column_text table lasting before entry after
+column_same table lasting before entry after =
+    let objects = objects_text table lasting.end before.counts after.counts in
+    let notices = trace.notices_text lasting.end entry (bare after) in
+    ap (λ l. l ++ trace.changes_text table lasting.end (bare before) (bare after) ++ objects ++ notices)
+    (call_same table lasting entry (bare after) after (slice_same after))
+    ∙ ap (λ l. trace.call_text table lasting entry after ++ l ++ objects ++ notices)
+    (changes_same table lasting.end before after)
+    ∙ ap (λ l. trace.call_text table lasting entry after ++ trace.changes_text table lasting.end before after ++ objects ++ l)
+    (notices_same lasting.end entry (bare after) after (slice_same after))
 
 -- what comes after the columns
 pub foot_same : (table : Table) (time : ℕ) (last : Shown)

@@ -8,7 +8,7 @@ use Rattle.apex_machine.specs.table.Table.{Table}
 use Rattle.apex_machine.specs.text.Texts.{id_text}
 use Rattle.apex_traces.specs.Times.{time_text, time_back}
 use Rattle.apex_moments.specs.Terms.{Caller, Entry, Reply}
-use Rattle.apex_traces.specs.declared.calls.Span.{Span}
+use Rattle.apex_traces.specs.declared.calls.Lasting.{Lasting}
 use Rattle.apex_types.specs.declared.entries.Caller.TheVariants.{Process, Init, Nobody}
 use Rattle.apex_types.specs.declared.entries.Reply.TheVariants.{Advanced}
 
@@ -31,9 +31,9 @@ said_text number reply asked =
     ++ codes "\"},\"name\":\"" ++ json_text asked ++ codes "\"}"
 
 -- the slice of an entry from the moment before it to the moment after it
-abbrev pub slice_of : Table → Span → Entry → List ℕ
-slice_of table span entry =
-    lasting_text entry.process span.begin (span.end - span.begin)
+abbrev pub slice_of : Table → Lasting → Entry → List ℕ
+slice_of table lasting entry =
+    lasting_text entry.process lasting.begin (lasting.end - lasting.begin)
     ++ said_text entry.number (reply_text table entry.reply)
     (asked_text table entry.call entry.reply)
 
@@ -44,6 +44,6 @@ is_idle None (Advanced asked went) = false
 is_idle None reply = true
 
 -- the slice of an entry; an idle turn has none
-abbrev pub call_of : Table → Span → Entry → List ℕ
-call_of table span entry =
-    if is_idle entry.call entry.reply then [] else slice_of table span entry
+abbrev pub call_of : Table → Lasting → Entry → List ℕ
+call_of table lasting entry =
+    if is_idle entry.call entry.reply then [] else slice_of table lasting entry

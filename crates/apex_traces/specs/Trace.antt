@@ -21,7 +21,7 @@ use Rattle.apex_moments.specs.declared.moments.Cell.{Cell}
 use Rattle.apex_traces.specs.Beings.{being_in, being_name, is_begun, same_being}
 use Rattle.apex_traces.specs.declared.beings.Being.{Being}
 use Rattle.apex_json.specs.Strings.{json_text}
-use Rattle.apex_traces.specs.declared.calls.Span.{Span}
+use Rattle.apex_traces.specs.declared.calls.Lasting.{Lasting}
 use Rattle.apex_traces.specs.declared.stamps.Group.TheVariants.{Cores, Processes, Objects}
 use Rattle.apex_traces.specs.declared.trace.Spot.{Spot}
 
@@ -199,10 +199,10 @@ changes_text table time before after =
     ++ texts_of (process_at table time before after) (length table.processes)
 
 -- the slice of an entry, and the beginnings of its arrows
-abbrev pub call_text : Table → Span → Entry → Shown → List ℕ
-call_text table span entry after =
-    call_of table span entry
-    ++ tails_of entry.process span.begin after entry.number entry.notices
+abbrev pub call_text : Table → Lasting → Entry → Shown → List ℕ
+call_text table lasting entry after =
+    call_of table lasting entry
+    ++ tails_of entry.process lasting.begin after entry.number entry.notices
 
 -- the marks of an entry's notices, and the ends of its arrows
 abbrev pub notices_text : ℕ → Entry → Shown → List ℕ
@@ -211,12 +211,12 @@ notices_text time entry after =
     ++ heads_of time after entry.number entry.notices
 
 -- the call of an entry, the changes by it, and its notices
-abbrev pub column_text : Table → Span → Shown → Entry → Shown → List ℕ
-column_text table span before entry after =
-    call_text table span entry after
-    ++ changes_text table span.end before after
-    ++ objects_text table span.end before.counts after.counts
-    ++ notices_text span.end entry after
+abbrev pub column_text : Table → Lasting → Shown → Entry → Shown → List ℕ
+column_text table lasting before entry after =
+    call_text table lasting entry after
+    ++ changes_text table lasting.end before after
+    ++ objects_text table lasting.end before.counts after.counts
+    ++ notices_text lasting.end entry after
 
 -- what comes after the columns: the ends of all slices
 abbrev pub foot_text : Table → ℕ → Shown → List ℕ

@@ -31,8 +31,7 @@ const SAID: usize = 2 * MOST_ESCAPE * MOST_LINE + DIGITS + 40;
 
 /// The times of the moments before and after an entry, in nanoseconds.
 #[derive(Clone, Copy)]
-pub struct Span {
-    /// The time of the moment before the entry.
+pub struct Lasting {
     pub begin: u64,
     /// The time of the moment after it.
     pub end: u64,
@@ -113,22 +112,22 @@ impl Said {
         &mut self,
         piece: &mut Piece,
         table: &Table,
-        span: Span,
+        lasting: Lasting,
         begun: &Timed,
         entry: &LentEntry<'_>,
     )
         requires printable { IsPrintable table.now entry.now }
-        requires begun { begun.now ≡ span.begin }
+        requires begun { begun.now ≡ lasting.begin }
         requires room { array_vec_len piece.old + CALL ≤ PIECE_ROOM }
         ensures text { piece.new.items ≡ piece.old.items
-            ++ slice_of table.now span entry.entry.now }
+            ++ slice_of table.now lasting entry.entry.now }
         ensures short { array_vec_len piece.new ≤ array_vec_len piece.old + CALL }
     {
         add_lasting(
             piece,
             &entry.process,
             begun,
-            span.end.saturating_sub(span.begin),
+            lasting.end.saturating_sub(lasting.begin),
         );
         self.add_said(piece, table, entry);
     }
@@ -139,21 +138,21 @@ impl Said {
         &mut self,
         piece: &mut Piece,
         table: &Table,
-        span: Span,
+        lasting: Lasting,
         begun: &Timed,
         entry: &LentEntry<'_>,
     )
         requires printable { IsPrintable table.now entry.now }
-        requires begun { begun.now ≡ span.begin }
+        requires begun { begun.now ≡ lasting.begin }
         requires room { array_vec_len piece.old + CALL ≤ PIECE_ROOM }
         ensures text { piece.new.items ≡ piece.old.items
-            ++ call_of table.now span entry.entry.now }
+            ++ call_of table.now lasting entry.entry.now }
         ensures short { array_vec_len piece.new ≤ array_vec_len piece.old + CALL }
     {
         if is_idle(&entry.call, &entry.reply) {
             return;
         }
-        self.add_slice(piece, table, span, begun, entry);
+        self.add_slice(piece, table, lasting, begun, entry);
     }
 }
 

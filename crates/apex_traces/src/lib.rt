@@ -19,7 +19,7 @@ mod trace;
 mod tracks;
 
 pub use bytes::Bytes;
-pub use calls::Span;
+pub use calls::Lasting;
 pub use pieces::{COLUMN, GATHERED, PIECE_ROOM, Piece};
 pub use trace::{add_column, put_foot, put_head};
 pub use tracks::{Tracks, tracks_in};

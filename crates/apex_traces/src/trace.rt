@@ -20,7 +20,7 @@ ghost use Rattle.apex_traces.specs.Tracks.{bare, bare_cells, cell_on, track_of};
 
 use crate::arrows::{add_heads, add_tails};
 use crate::beings::{BEING_ROOM, Being, add_being_name, is_begun, is_same_being};
-use crate::calls::{Said, Span};
+use crate::calls::{Lasting, Said};
 use crate::counters::put_first_counts;
 use crate::escapes::add_escaped;
 use crate::mutexes::{add_mutex_ends, put_mutex_names};
@@ -581,19 +581,19 @@ pub(crate) fn add_call<S: Store>(
     said: &mut Said,
     table: &Table,
     store: &S,
-    span: Span,
+    lasting: Lasting,
     begun: &Timed,
     entry: &LentEntry<'_>,
 )
     requires printable { IsPrintable table.now entry.now }
-    requires begun { begun.now ≡ span.begin }
+    requires begun { begun.now ≡ lasting.begin }
     requires room { array_vec_len piece.old + CALL + ARROW * MOST_NOTICES ≤ PIECE_ROOM }
-    ensures text { piece.new.items ≡ piece.old.items ++ trace.call_text table.now span
+    ensures text { piece.new.items ≡ piece.old.items ++ trace.call_text table.now lasting
         entry.entry.now (with_cells (bare_cells (S.roster store.now))) }
     ensures short { array_vec_len piece.new
         ≤ array_vec_len piece.old + CALL + ARROW * MOST_NOTICES }
 {
-    said.add_call(piece, table, span, begun, entry);
+    said.add_call(piece, table, lasting, begun, entry);
     add_tails(
         piece,
         store,
@@ -629,7 +629,7 @@ pub fn add_column<S: Store>(
     piece: &mut Piece,
     table: &Table,
     situation: &Situation<S>,
-    span: Span,
+    lasting: Lasting,
     entry: &LentEntry<'_>,
     shown: &mut Tracks,
 )
@@ -640,12 +640,12 @@ pub fn add_column<S: Store>(
     requires cores { length shown.old.running ≡ MOST_CORES }
     requires room { array_vec_len piece.old + COLUMN ≤ PIECE_ROOM }
     ensures text { piece.new.items ≡ piece.old.items
-        ++ trace.column_text table.now span shown.old entry.entry.now
+        ++ trace.column_text table.now lasting shown.old entry.entry.now
         (bare (moment_at table.now (situation_in situation.now))) }
     ensures shown { shown.new ≡ bare (moment_at table.now (situation_in situation.now)) }
 {
     let (objects, store) = (situation.objects(), situation.store());
-    shown.add_column(piece, table, objects, store, span, entry);
+    shown.add_column(piece, table, objects, store, lasting, entry);
 }
 
 /// Adds the ends of all slices.

@@ -13,7 +13,7 @@ ghost use Rattle.apex_traces.specs.declared.beings.Being.TheVariants.{Dormant, R
 ghost use Rattle.apex_traces.specs.declared.pieces.TheConstants.{COLUMN, PIECE_ROOM};
 
 use crate::beings::{Being, being_of, is_awaiting};
-use crate::calls::{Said, Span};
+use crate::calls::{Lasting, Said};
 use crate::changes::add_changes;
 use crate::pieces::{COLUMN, PIECE_ROOM, Piece};
 use crate::stamps::Timed;
@@ -206,7 +206,7 @@ impl Tracks {
         table: &Table,
         objects: &Objects,
         store: &S,
-        span: Span,
+        lasting: Lasting,
         entry: &LentEntry<'_>,
     )
         requires printable { IsPrintable table.now entry.now }
@@ -216,16 +216,16 @@ impl Tracks {
         requires table { length table.now.processes ≡ length (S.roster store.now).records }
         requires room { array_vec_len piece.old + COLUMN ≤ PIECE_ROOM }
         ensures text { piece.new.items ≡ piece.old.items
-            ++ column_text table.now span self.old entry.entry.now
+            ++ column_text table.now lasting self.old entry.entry.now
             (bare (moment_of (S.roster store.now)
             (counts_of table.now (S.roster store.now) objects.now))) }
         ensures shown { self.new ≡ bare (moment_of (S.roster store.now)
             (counts_of table.now (S.roster store.now) objects.now)) }
     {
-        self.latest.reach(span.begin);
+        self.latest.reach(lasting.begin);
         let said = &mut self.said;
-        add_call(piece, said, table, store, span, &self.latest, entry);
-        let time = span.end;
+        add_call(piece, said, table, store, lasting, &self.latest, entry);
+        let time = lasting.end;
         self.latest.reach(time);
         let stamp = &self.latest;
         let running = self.running.as_mut_slice();

@@ -16,7 +16,7 @@ use Rattle.apex_pictures.specs.declared.Side.TheVariants.{First, Last}
 use Rattle.apex_types.specs.declared.entries.Entry.{Entry}
 use Rattle.apex_types.specs.declared.entries.Event.{Event}
 use Rattle.apex_views.specs.declared.departures.Departure.{Departure as DepartureIn}
-use Rattle.apex_showings.specs.declared.Span.{Span}
+use Rattle.apex_showings.specs.declared.EntryRange.{EntryRange}
 
 -- how a departure is shown: the text of the verdict, the line that the machine expects, and the line
 -- that was given
@@ -65,14 +65,14 @@ abbrev pub side_before : Option Departure → Side
 side_before None = First
 side_before (Some departure) = Last
 
--- The entries that a picture of a span is asked to show, of a history of `entries` entries, behind which
+-- The entries that a picture of a range is asked to show, of a history of `entries` entries, behind which
 -- there may be a departure, with idle entries folded or not. If it has too many columns, and the
--- departure follows the last entry of the span, the last ones are drawn.
-abbrev pub extent_of : Option Departure → ℕ → Bool → Span → Extent
-extent_of departure entries fold span = record {
-  first = span.first;
-  last = span.last;
-  side = side_before (departure_behind span.last entries departure);
+-- departure follows the last entry of the range, the last ones are drawn.
+abbrev pub extent_of : Option Departure → ℕ → Bool → EntryRange → Extent
+extent_of departure entries fold range = record {
+  first = range.first;
+  last = range.last;
+  side = side_before (departure_behind range.last entries departure);
   fold = fold;
 }
 

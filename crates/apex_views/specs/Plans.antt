@@ -37,11 +37,11 @@ use Rattle.apex_drawing.specs.declared.Style.TheVariants as style
 use Rattle.apex_views.specs.Departures.{Departure, Marks, departure_behind, extent_of}
 use Rattle.apex_views.specs.Rows.{rows_for}
 use Rattle.apex_showings.specs.Showings.{Chart, Picture, View, drawn, listed, svg, trace}
-use Rattle.apex_showings.specs.Windows.{span_in}
+use Rattle.apex_showings.specs.Windows.{range_in}
 use Rattle.apex_views.specs.declared.plans.Plan.{Plan}
 use Rattle.apex_showings.specs.declared.Listing.{Listing}
 use Rattle.apex_showings.specs.declared.Listing.TheVariants as lists
-use Rattle.apex_showings.specs.declared.Span.{Span}
+use Rattle.apex_showings.specs.declared.EntryRange.{EntryRange}
 
 -- the events run like those of the items, and this fault is reported with the picture
 pub record IsRunOf (items : List Item) (table : tables.Table) (events : List Event)
@@ -70,12 +70,12 @@ pub record IsFrameFor (axis : Axis) (extent : Extent) (history : List Entry)
 -- the axis, folds those that are idle if this is asked for, and has rows for the processes that are named
 pub record IsFrameOf (chart : Chart) (table : tables.Table) (history : List Entry)
     (departure : Option Departure) (frame : Frame) : Type 0 where
-  pub span : Span
+  pub range : EntryRange
   pub only : Option (List ℕ)
-  pub is : span_in chart.window history ≡ Some span
+  pub is : range_in chart.window history ≡ Some range
   pub named : rows_for table chart.only ≡ Ok only
   pub rows : HasRows table only frame.rows
-  pub shows : IsFrameFor chart.axis (extent_of departure (length history) chart.fold span) history
+  pub shows : IsFrameFor chart.axis (extent_of departure (length history) chart.fold range) history
       departure frame
 
 -- a style is that of a picture of a table's history, behind which there may be a departure
@@ -86,27 +86,27 @@ IsStyleOf (svg chart) table history departure (style.Trace tick) = ⊥
 IsStyleOf (trace asked) table history departure (style.Svg frame) = ⊥
 IsStyleOf (trace asked) table history departure (style.Trace tick) = tick ≡ asked
 
--- the entries of a span of a history that have a column, with idle entries folded or not; there is none
--- without a span
-abbrev pub columns_in : Bool → Option Span → List Entry → List Timed
+-- the entries of a range of a history that have a column, with idle entries folded or not; there is none
+-- without a range
+abbrev pub columns_in : Bool → Option EntryRange → List Entry → List Timed
 columns_in fold None history = []
-columns_in fold (Some span) history =
-    columns_of (extent_of None (length history) fold span) history
+columns_in fold (Some range) history =
+    columns_of (extent_of None (length history) fold range) history
 
 -- the entries of the window of a chart that have a column
 abbrev pub columns_asked : Chart → List Entry → List Timed
-columns_asked chart history = columns_in chart.fold (span_in chart.window history) history
+columns_asked chart history = columns_in chart.fold (range_in chart.window history) history
 
--- the part of a span that is drawn of a history; none if all of its columns are drawn
-abbrev pub excerpt_at : Bool → Option Span → List Entry → Option Excerpt
+-- the part of a range that is drawn of a history; none if all of its columns are drawn
+abbrev pub excerpt_at : Bool → Option EntryRange → List Entry → Option Excerpt
 excerpt_at fold None history = None
-excerpt_at fold (Some span) history =
-    excerpt_of (extent_of None (length history) fold span) history
+excerpt_at fold (Some range) history =
+    excerpt_of (extent_of None (length history) fold range) history
 
 -- what a view shows of a history, if more was asked for
 abbrev pub excerpt_shown : View → List Entry → Option Excerpt
 excerpt_shown (drawn (svg chart)) history =
-    excerpt_at chart.fold (span_in chart.window history) history
+    excerpt_at chart.fold (range_in chart.window history) history
 excerpt_shown (drawn (trace tick)) history = None
 excerpt_shown (listed listing) history = None
 

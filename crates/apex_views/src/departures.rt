@@ -10,7 +10,7 @@ use apex_dispatch::{Kernel, events_in};
 use apex_history::Lines;
 use apex_pictures::{Extent, Frame, Mark, Side};
 use apex_process::QueueStore;
-use apex_showings::Span;
+use apex_showings::EntryRange;
 use apex_store::Store;
 use apex_types::Event;
 use std::alloc::{AllocError, Global};
@@ -87,24 +87,24 @@ fn mark_of(alloc: Global, lines: &ShownLines) -> Result<Mark, AllocError>
     Ok(Mark { expected, given })
 }
 
-/// The entries that a picture of a span is asked to show, of a history of this many entries, with idle
+/// The entries that a picture of a range is asked to show, of a history of this many entries, with idle
 /// entries folded or not: if it has too many columns, and a departure follows the last entry of the
-/// span, the last ones are drawn.
+/// range, the last ones are drawn.
 pub(crate) fn extent_of(
     departure: &Option<Departure>,
     entries: usize,
     fold: bool,
-    span: Span,
+    range: EntryRange,
 ) -> Extent
-    ensures { result ≡ extent_of (option_map departure_said departure.now) entries fold span }
+    ensures { result ≡ extent_of (option_map departure_said departure.now) entries fold range }
 {
     let side = match departure {
-        Some(_) if span.last as usize == entries => Side::Last,
+        Some(_) if range.last as usize == entries => Side::Last,
         _ => Side::First,
     };
     Extent {
-        first: span.first,
-        last: span.last,
+        first: range.first,
+        last: range.last,
         side,
         fold,
     }

@@ -70,11 +70,11 @@ pub(crate) fn frame_for<S: Store>(
         (IsFrameOf (chart_said chart.now) kernel.now.table history
         (option_map departure_said departure.now))) }
 {
-    let Some(span) = chart.window.span_in(kernel) else {
+    let Some(range) = chart.window.range_in(kernel) else {
         return Ok(None);
     };
     let entries = kernel.entries().len();
-    let extent = extent_of(departure, entries, chart.fold, span);
+    let extent = extent_of(departure, entries, chart.fold, range);
     let frame = Frame::new(alloc, kernel, chart.axis, extent, only)?;
     if frame.columns.drawn.as_slice().is_empty() {
         return Ok(None);

@@ -1,4 +1,4 @@
--- The frame is that of the span, with the mark of the departure.
+-- The frame is that of the range, with the mark of the departure.
 use Rattle.std.proofs.Common.{◌≡◌, ◌∙◌, ap, length, subst, sym}
 use Rattle.std.proofs.lemmas.Bool.{eqb-true}
 use Rattle.std.specs.Prelude.{option_map}
@@ -15,13 +15,13 @@ returns g c =
     let chart = c.args.chart.now in
     let many = length history in
     let departure = option_map departure_said c.args.departure.now in
-    let span = c.in-Some.span in
+    let range = c.in-Some.range in
     let made = c.in_ok-frame.ensures in
     let marked = c.in_ok-frame-2.ensures in
-    let extent_is : c.extent_of-extent.result ≡ extent_of departure many chart.fold span =
-    c.extent_of-extent.ensures ∙ ap (λ n. extent_of departure n chart.fold span) (c.len-entries.ensures.value ∙ ap length c.entries.ensures) in
+    let extent_is : c.extent_of-extent.result ≡ extent_of departure many chart.fold range =
+    c.extent_of-extent.ensures ∙ ap (λ n. extent_of departure n chart.fold range) (c.len-entries.ensures.value ∙ ap length c.entries.ensures) in
     record {
-      span = span;
+      range = range;
       only = option_map (λ list. list.now) c.args.only;
       is = sym c.in-Some.ensures;
       named = c.requires;
@@ -40,10 +40,10 @@ returns-then-is_empty g c =
     let history = c.args.kernel.now.machine.history in
     let fold = c.args.chart.now.fold in
     let departure = option_map departure_said c.args.departure.now in
-    let span = c.in-Some.span in
-    let asked = extent_of departure (length history) fold span in
+    let range = c.in-Some.range in
+    let asked = extent_of departure (length history) fold range in
     let extent_is : c.extent_of-extent.result ≡ asked =
-    c.extent_of-extent.ensures ∙ ap (λ n. extent_of departure n fold span) (c.len-entries.ensures.value ∙ ap length c.entries.ensures) in
+    c.extent_of-extent.ensures ∙ ap (λ n. extent_of departure n fold range) (c.len-entries.ensures.value ∙ ap length c.entries.ensures) in
     let drawn_is : c.in_ok-frame.frame.columns.drawn.items ≡ drawn asked history =
     c.in_ok-frame.ensures.columns.drawn_is ∙ ap (λ (e : Extent). drawn e history) extent_is in
     let none : length c.in_ok-frame.frame.columns.drawn.items ≡ 0 =

@@ -45,20 +45,20 @@ pub returns-clause-text : goal.returns-clause-text
 returns-clause-text g c =
     let roster = g.S.Store.roster c.args.store.now in
     let table = c.args.table.now in
-    let span = c.args.span in
+    let lasting = c.args.lasting in
     let entry = c.args.entry.now in
     let text = c.args.piece.now.items in
     let before = shown_of (map cell_on c.self.inside.tracks.items) c.self.inside.running.items c.self.inside.counts in
     let after = bare (moment_of roster (counts_of table roster c.args.objects.now)) in
     let cells = with_cells (bare_cells roster) in
-    let call : c.add_call.new.piece.items ≡ text ++ call_text table span entry after =
-    c.add_call.ensures.text ∙ ap (λ l. text ++ l) (call_same table span entry cells after (λ p. refl)) in
-    let notices = notices_same span.end entry cells after (λ p. refl) in
-    subst (λ (shown : Shown). c.add_notices.new.piece.items ≡ text ++ column_text table span shown entry after) c.self.view_is
-    (column_whole table span before entry after text c.add_call.new.piece.items c.add_runs.new.piece.items
+    let call : c.add_call.new.piece.items ≡ text ++ call_text table lasting entry after =
+    c.add_call.ensures.text ∙ ap (λ l. text ++ l) (call_same table lasting entry cells after (λ p. refl)) in
+    let notices = notices_same lasting.end entry cells after (λ p. refl) in
+    subst (λ (shown : Shown). c.add_notices.new.piece.items ≡ text ++ column_text table lasting shown entry after) c.self.view_is
+    (column_whole table lasting before entry after text c.add_call.new.piece.items c.add_runs.new.piece.items
     c.add_processes.new.piece.items c.add_changes.new.piece.items c.add_notices.new.piece.items call
     (rw c.as_mut_slice-running.ensures.value at c.add_runs.ensures.text)
     ((rw c.as_mut_slice-tracks.ensures.value at c.add_processes.ensures.text)
-    ∙ ap (λ n. c.add_runs.new.piece.items ++ texts_of (process_at table span.end before after) n) (sym c.requires.table))
+    ∙ ap (λ n. c.add_runs.new.piece.items ++ texts_of (process_at table lasting.end before after) n) (sym c.requires.table))
     c.add_changes.ensures.text
     (c.add_notices.ensures.text ∙ ap (λ l. c.add_changes.new.piece.items ++ l) notices))
