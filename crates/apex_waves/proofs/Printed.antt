@@ -12,19 +12,19 @@ use Rattle.apex_history.proofs.Passing.{beginning_longer, passes_with}
 use Rattle.apex_types.specs.declared.entries.Event.{Event}
 use Rattle.apex_waves.specs.Dumps.{dump_text, end_text, steps_text}
 use Rattle.apex_waves.specs.Heads.{head_text}
-use Rattle.apex_waves.specs.Moments.{moment_in}
+use Rattle.apex_waves.specs.Snapshots.{snapshot_in}
 use Rattle.apex_waves.specs.Printing.{Grows, IsFollowed}
 use Rattle.apex_waves.proofs.Steps.{run_grows}
 
 -- the text of the steps so far
 abbrev pub so_far : Table → Machine → List ℕ
-so_far table machine = head_text table (moment_in table (opening table)) ++ steps_text table machine
+so_far table machine = head_text table (snapshot_in table (opening table)) ++ steps_text table machine
 
 -- further steps follow those before
 text_more : (table : Table) (old new : Machine) (more : List ℕ) → steps_text table new ≡ steps_text table old ++ more
     → so_far table new ≡ so_far table old ++ more
 text_more table old new more is =
-    let head = head_text table (moment_in table (opening table)) in
+    let head = head_text table (snapshot_in table (opening table)) in
     ap (λ (l : List ℕ). head ++ l) is ∙ sym (append_assoc head (steps_text table old) more)
 
 -- an event's steps follow what is held
@@ -55,11 +55,11 @@ passes_end a b table machine held after passes stands =
 
 -- the head is held, and nothing was written yet
 pub begun : (a : Option (List ℕ)) (table : Table) (machine : Machine) (text : List ℕ)
-    → machine ≡ opening table → text ≡ head_text table (moment_in table machine) → Passes a a (so_far table machine) text
+    → machine ≡ opening table → text ≡ head_text table (snapshot_in table machine) → Passes a a (so_far table machine) text
 begun a table machine text opened is =
-    let head = head_text table (moment_in table (opening table)) in
+    let head = head_text table (snapshot_in table (opening table)) in
     let none : steps_text table machine ≡ [] = rw opened refl in
-    let first : text ≡ head = is ∙ ap (λ (m : Machine). head_text table (moment_in table m)) opened in
+    let first : text ≡ head = is ∙ ap (λ (m : Machine). head_text table (snapshot_in table m)) opened in
     ([], ap (λ (l : List ℕ). head ++ l) none ∙ append-nil head ∙ sym first, Appends-nil a)
 
 -- no step is added if the history is full

@@ -15,7 +15,7 @@ use Rattle.apex_types.specs.declared.entries.Entry.{Entry}
 use Rattle.apex_types.specs.declared.entries.Event.{Event}
 use Rattle.apex_moments.proofs.Pictured.{event_adds, longer}
 use Rattle.apex_waves.specs.Dumps.{entry_text, step_text, steps_text, time_after}
-use Rattle.apex_waves.specs.Moments.{Moment, moment_after, moment_in, moment_of, roster_after}
+use Rattle.apex_waves.specs.Snapshots.{Snapshot, roster_after, snapshot_after, snapshot_in, snapshot_of}
 use Rattle.apex_waves.specs.Printing.{IsFollowed}
 
 texts_same : (f g : ℕ → List ℕ) (n : ℕ) → ((k : ℕ) → k < n → f k ≡ g k) → texts_of f n ≡ texts_of g n
@@ -24,12 +24,12 @@ texts_same f g (suc n) same =
     ap (λ (l : List ℕ). l ++ f n) (texts_same f g n (λ k within. same k (omega (arith, within))))
     ∙ ap (λ (l : List ℕ). texts_of g n ++ l) (same n (omega arith))
 
--- the moment after all entries is the machine's
-moment_now : (table : Table) (machine : Machine) → IsFollowed table machine
-    → moment_after table machine (length machine.history) ≡ moment_in table machine
-moment_now table machine followed =
-    ap (λ (r : Roster). moment_of r (objects_after table (take (length machine.history) machine.history))) followed.last
-    ∙ ap (λ (l : List Entry). moment_of machine.roster (objects_after table l)) (take-length machine.history)
+-- the snapshot after all entries is the machine's
+snapshot_now : (table : Table) (machine : Machine) → IsFollowed table machine
+    → snapshot_after table machine (length machine.history) ≡ snapshot_in table machine
+snapshot_now table machine followed =
+    ap (λ (r : Roster). snapshot_of r (objects_after table (take (length machine.history) machine.history))) followed.last
+    ∙ ap (λ (l : List Entry). snapshot_of machine.roster (objects_after table l)) (take-length machine.history)
 
 -- a machine with one entry more
 module _ (table : Table) (machine : Machine) (followed : IsFollowed table machine) where
@@ -40,12 +40,12 @@ module _ (table : Table) (machine : Machine) (followed : IsFollowed table machin
     many : length more.history ≡ length machine.history + 1
     many = length-append machine.history (entry ∷ [])
 
-    moment_kept : (k : ℕ) → k ≤ length machine.history → moment_after table more k ≡ moment_after table machine k
-    moment_kept k within =
-        ap (λ (r : Roster). moment_of r (objects_after table (take k more.history)))
+    snapshot_kept : (k : ℕ) → k ≤ length machine.history → snapshot_after table more k ≡ snapshot_after table machine k
+    snapshot_kept k within =
+        ap (λ (r : Roster). snapshot_of r (objects_after table (take k more.history)))
         (get_or_append_left (opening_roster table ∷ machine.past) (roster ∷ []) (opening_roster table) k
         (omega (arith, within, followed.many)))
-        ∙ ap (λ (l : List Entry). moment_of (roster_after table machine k) (objects_after table l))
+        ∙ ap (λ (l : List Entry). snapshot_of (roster_after table machine k) (objects_after table l))
         (take-append-le k machine.history (entry ∷ []) within)
 
     time_kept : (k : ℕ) → k ≤ length machine.history → time_after more k ≡ time_after machine k
@@ -55,9 +55,9 @@ module _ (table : Table) (machine : Machine) (followed : IsFollowed table machin
     entry_kept : (k : ℕ) → k < length machine.history → entry_text table more k ≡ entry_text table machine k
     unfolding entry_text
     entry_kept k within =
-        ap (λ (t : ℕ). step_text table t (moment_after table more k) (moment_after table more (k + 1))) (time_kept (k + 1) (omega (arith, within)))
-        ∙ ap (λ (m : Moment). step_text table (time_after machine (k + 1)) m (moment_after table more (k + 1))) (moment_kept k (omega (arith, within)))
-        ∙ ap (λ (m : Moment). step_text table (time_after machine (k + 1)) (moment_after table machine k) m) (moment_kept (k + 1) (omega (arith, within)))
+        ap (λ (t : ℕ). step_text table t (snapshot_after table more k) (snapshot_after table more (k + 1))) (time_kept (k + 1) (omega (arith, within)))
+        ∙ ap (λ (m : Snapshot). step_text table (time_after machine (k + 1)) m (snapshot_after table more (k + 1))) (snapshot_kept k (omega (arith, within)))
+        ∙ ap (λ (m : Snapshot). step_text table (time_after machine (k + 1)) (snapshot_after table machine k) m) (snapshot_kept (k + 1) (omega (arith, within)))
 
     followed_longer : IsFollowed table more
     followed_longer = record {
@@ -71,21 +71,21 @@ module _ (table : Table) (machine : Machine) (followed : IsFollowed table machin
 
     -- the step of the last entry
     entry_last : entry_text table more (length machine.history)
-        ≡ step_text table (units (instant_after more.history)) (moment_in table machine) (moment_in table more)
+        ≡ step_text table (units (instant_after more.history)) (snapshot_in table machine) (snapshot_in table more)
     unfolding entry_text
     entry_last =
         let n = length machine.history in
         let whole : take (n + 1) more.history ≡ more.history =
         ap (λ (k : ℕ). take k more.history) (sym many) ∙ take-length more.history in
-        let last : moment_after table more (n + 1) ≡ moment_in table more =
-        ap (moment_after table more) (sym many) ∙ moment_now table more followed_longer in
-        ap (λ (l : List Entry). step_text table (units (instant_after l)) (moment_after table more n) (moment_after table more (n + 1))) whole
-        ∙ ap (λ (m : Moment). step_text table (units (instant_after more.history)) m (moment_after table more (n + 1)))
-        (moment_kept n (omega arith) ∙ moment_now table machine followed)
-        ∙ ap (λ (m : Moment). step_text table (units (instant_after more.history)) (moment_in table machine) m) last
+        let last : snapshot_after table more (n + 1) ≡ snapshot_in table more =
+        ap (snapshot_after table more) (sym many) ∙ snapshot_now table more followed_longer in
+        ap (λ (l : List Entry). step_text table (units (instant_after l)) (snapshot_after table more n) (snapshot_after table more (n + 1))) whole
+        ∙ ap (λ (m : Snapshot). step_text table (units (instant_after more.history)) m (snapshot_after table more (n + 1)))
+        (snapshot_kept n (omega arith) ∙ snapshot_now table machine followed)
+        ∙ ap (λ (m : Snapshot). step_text table (units (instant_after more.history)) (snapshot_in table machine) m) last
 
     steps_longer : steps_text table more ≡ steps_text table machine
-        ++ step_text table (units (instant_after more.history)) (moment_in table machine) (moment_in table more)
+        ++ step_text table (units (instant_after more.history)) (snapshot_in table machine) (snapshot_in table more)
     steps_longer =
         let n = length machine.history in
         let next : texts_of (entry_text table more) (n + 1) ≡ texts_of (entry_text table more) n ++ entry_text table more n = rw (add-one n) refl in
@@ -104,13 +104,13 @@ module _ (table : Table) (machine : Machine) (followed : IsFollowed table machin
   -- the step that an event adds, for which there was room
   pub step_more : (event : Event) (new : Machine) → length machine.history < table.limit → new ≡ accept table machine event
       → steps_text table new ≡ steps_text table machine
-      ++ step_text table (units (instant_after new.history)) (moment_in table machine) (moment_in table new)
+      ++ step_text table (units (instant_after new.history)) (snapshot_in table machine) (snapshot_in table new)
   step_more event new room is =
       let (entry, roster, adds) = event_adds table machine event in
       let whole : new ≡ longer machine entry roster = is ∙ accept-room table machine event room ∙ adds in
       ap (steps_text table) whole ∙ steps_longer entry roster
       ∙ ap (λ (m : Machine). steps_text table machine
-      ++ step_text table (units (instant_after m.history)) (moment_in table machine) (moment_in table m)) (sym whole)
+      ++ step_text table (units (instant_after m.history)) (snapshot_in table machine) (snapshot_in table m)) (sym whole)
 
   -- an event adds steps
   accept_grows : (event : Event) → (more : List ℕ) × (steps_text table (accept table machine event) ≡ steps_text table machine ++ more)

@@ -6,7 +6,7 @@ use Rattle.apex_machine.specs.text.Listing.{texts_of}
 use Rattle.apex_waves.specs.Heads.{head_text}
 use Rattle.apex_moments.specs.Instants.{instant_after, next_instant}
 use Rattle.apex_waves.specs.Instants.{units}
-use Rattle.apex_waves.specs.Moments.{Moment, moment_after, moment_in}
+use Rattle.apex_waves.specs.Snapshots.{Snapshot, snapshot_after, snapshot_in}
 use Rattle.apex_waves.specs.Signals.{signals_of}
 use Rattle.apex_waves.specs.Values.{change_in}
 
@@ -19,15 +19,15 @@ abbrev pub time_line : ℕ → List ℕ
 time_line time = codes "#" ++ decimal time ++ codes "\n"
 
 -- a step of a dump: the line of its time, and the changes from one moment to the next
-abbrev pub step_text : Table → ℕ → Moment → Moment → List ℕ
+abbrev pub step_text : Table → ℕ → Snapshot → Snapshot → List ℕ
 step_text table time before after =
     time_line time ++ flat_map (change_in table before after) (signals_of table)
 
 -- the step of the entry that follows the first k of them
 unfoldable pub entry_text : Table → Machine → ℕ → List ℕ
 entry_text table machine k =
-    step_text table (time_after machine (k + 1)) (moment_after table machine k)
-    (moment_after table machine (k + 1))
+    step_text table (time_after machine (k + 1)) (snapshot_after table machine k)
+    (snapshot_after table machine (k + 1))
 
 -- the steps of all entries
 abbrev pub steps_text : Table → Machine → List ℕ
@@ -44,4 +44,4 @@ end_text machine = time_line (end_time machine)
 -- the dump of a machine
 abbrev pub dump_text : Table → Machine → List ℕ
 dump_text table machine =
-    head_text table (moment_in table (opening table)) ++ steps_text table machine ++ end_text machine
+    head_text table (snapshot_in table (opening table)) ++ steps_text table machine ++ end_text machine

@@ -2,7 +2,7 @@
 use Rattle.std.specs.Prelude.{ℕ, List, ◌++◌, codes, flat_map}
 use Rattle.apex_machine.specs.table.Table.{Table}
 use Rattle.apex_waves.specs.Kinds.{of_kinds, scope_word, signals_in}
-use Rattle.apex_waves.specs.Moments.{Moment}
+use Rattle.apex_waves.specs.Snapshots.{Snapshot}
 use Rattle.apex_waves.specs.Names.{code_text, signal_name}
 use Rattle.apex_waves.specs.Signals.{signals_of}
 use Rattle.apex_waves.specs.Values.{value_in}
@@ -43,7 +43,7 @@ unfoldable pub first_text : List ℕ
 first_text = codes "$enddefinitions $end\n#0\n$dumpvars\n"
 
 -- what comes before the first entry: the declarations, and the values of all signals at time 0
-abbrev pub head_text : Table → Moment → List ℕ
+abbrev pub head_text : Table → Snapshot → List ℕ
 head_text table first =
     opening_text ++ of_kinds (scope_text table)
     ++ first_text ++ flat_map (value_in table first) (signals_of table) ++ codes "$end\n"

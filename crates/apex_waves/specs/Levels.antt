@@ -5,7 +5,7 @@ use Rattle.apex_machine.specs.processes.Running.{chosen, process_state}
 use Rattle.apex_moments.specs.Counts.{content_of, displayed_on, raised_of, value_of}
 use Rattle.apex_types.specs.declared.modes.State.{State}
 use Rattle.apex_types.specs.declared.modes.State.TheVariants.{Dormant, Ready, Running, Waiting}
-use Rattle.apex_waves.specs.Moments.{Moment}
+use Rattle.apex_waves.specs.Snapshots.{Snapshot}
 use Rattle.apex_waves.specs.declared.levels.Level.{Level}
 use Rattle.apex_waves.specs.declared.levels.Level.TheVariants as levels
 use Rattle.apex_waves.specs.declared.signals.Signal.{Signal}
@@ -14,7 +14,7 @@ use Rattle.apex_waves.specs.declared.signals.Signal.TheVariants.{Core, Process, 
 -- What a signal shows: that of a core the process that it runs, of a process its state, of a semaphore its
 -- value, of a buffer and of a blackboard the number of messages, of an event flag whether it is up, and of a
 -- mutex its owner.
-abbrev pub level_of : Moment → Signal → Level
+abbrev pub level_of : Snapshot → Signal → Level
 level_of moment (Core core) = levels.Process (chosen moment.roster core)
 level_of moment (Process p) = levels.State (process_state moment.roster p)
 level_of moment (Semaphore s) = levels.Count (value_of moment.objects s)

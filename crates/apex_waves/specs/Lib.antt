@@ -2,7 +2,7 @@ pub mod Instants
 pub mod Kinds
 pub mod Signals
 pub mod Names
-pub mod Moments
+pub mod Snapshots
 pub mod Levels
 pub mod Values
 pub mod Heads

@@ -5,7 +5,7 @@ use Rattle.apex_machine.specs.table.Table.{Table}
 use Rattle.apex_moments.specs.Instants.{instant_after}
 use Rattle.apex_waves.specs.Dumps.{steps_text}
 use Rattle.apex_waves.specs.Levels.{level_of}
-use Rattle.apex_waves.specs.Moments.{moment_in, roster_after}
+use Rattle.apex_waves.specs.Snapshots.{roster_after, snapshot_in}
 use Rattle.apex_waves.specs.Signals.{signals_of}
 use Rattle.apex_waves.specs.declared.printing.Course.{Course}
 
@@ -17,7 +17,7 @@ Grows table old new before after =
 -- the instant and the levels are those of a machine
 pub record IsAt (table : Table) (machine : Machine) (course : Course) : Type 0 where
   pub instant : course.instant ≡ instant_after machine.history
-  pub levels : course.levels.items ≡ map (level_of (moment_in table machine)) (signals_of table)
+  pub levels : course.levels.items ≡ map (level_of (snapshot_in table machine)) (signals_of table)
 
 -- the machine's past has a roster for each entry, and the last of them is the machine's
 pub record IsFollowed (table : Table) (machine : Machine) : Type 0 where

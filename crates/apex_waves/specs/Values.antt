@@ -4,7 +4,7 @@ use Rattle.apex_machine.specs.table.Table.{Table}
 use Rattle.apex_machine.specs.text.Status.{state_text}
 use Rattle.apex_machine.specs.text.Texts.{process_name}
 use Rattle.apex_waves.specs.Levels.{level_of, same_level}
-use Rattle.apex_waves.specs.Moments.{Moment}
+use Rattle.apex_waves.specs.Snapshots.{Snapshot}
 use Rattle.apex_waves.specs.Names.{code_text, dump_name}
 use Rattle.apex_waves.specs.declared.levels.Level.{Level}
 use Rattle.apex_waves.specs.declared.levels.Level.TheVariants.{State, Process, Count}
@@ -23,7 +23,7 @@ value_text table signal level =
     level_text table level ++ codes " " ++ code_text signal ++ codes "\n"
 
 -- the line of a signal at a moment
-abbrev pub value_in : Table → Moment → Signal → List ℕ
+abbrev pub value_in : Table → Snapshot → Signal → List ℕ
 value_in table moment signal = value_text table signal (level_of moment signal)
 
 -- the line of a signal whose level is not the one before, and nothing if it is
@@ -32,6 +32,6 @@ change_text table signal before after =
     if same_level before after then [] else value_text table signal after
 
 -- the change of a signal from one moment to the next
-abbrev pub change_in : Table → Moment → Moment → Signal → List ℕ
+abbrev pub change_in : Table → Snapshot → Snapshot → Signal → List ℕ
 change_in table before after signal =
     change_text table signal (level_of before signal) (level_of after signal)

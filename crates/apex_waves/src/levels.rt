@@ -2,7 +2,7 @@
 ghost use Rattle.std.specs.Prelude.{◌≡◌};
 ghost use Rattle.apex_machine.specs.processes.Running.{process_state};
 ghost use Rattle.apex_waves.specs.Levels.{level_of, same_level, same_process, same_state};
-ghost use Rattle.apex_waves.specs.Moments.{moment_in, moment_of};
+ghost use Rattle.apex_waves.specs.Snapshots.{snapshot_in, snapshot_of};
 
 use crate::signals::{MOST_SIGNALS, Signal};
 use apex_dispatch::Kernel;
@@ -45,7 +45,7 @@ fn state_of<S: Store>(store: &S, process: ProcessId) -> State
 
 /// What a signal shows of these processes and these objects.
 fn level_in<S: Store>(store: &S, objects: &Objects, signal: &Signal) -> Level
-    ensures { result ≡ level_of (moment_of (S.roster store.now) objects.now) signal.now }
+    ensures { result ≡ level_of (snapshot_of (S.roster store.now) objects.now) signal.now }
 {
     match signal {
         Signal::Core(core) => Level::Process(store.chosen(*core)),
@@ -60,7 +60,7 @@ fn level_in<S: Store>(store: &S, objects: &Objects, signal: &Signal) -> Level
 
 /// What a signal shows of a kernel.
 pub(crate) fn level_of<S: Store>(kernel: &Kernel<S>, signal: &Signal) -> Level
-    ensures { result ≡ level_of (moment_in kernel.now.table kernel.now.machine) signal.now }
+    ensures { result ≡ level_of (snapshot_in kernel.now.table kernel.now.machine) signal.now }
 {
     level_in(kernel.store(), kernel.situation().objects(), signal)
 }

@@ -9,7 +9,7 @@ ghost use Rattle.apex_history.specs.Counted.{inner_of, failures_of, CountsFailur
 ghost use Rattle.apex_waves.specs.Instants.{units};
 ghost use Rattle.apex_waves.specs.Dumps.{dump_text, end_text, time_line};
 ghost use Rattle.apex_waves.specs.Heads.{head_text};
-ghost use Rattle.apex_waves.specs.Moments.{moment_in};
+ghost use Rattle.apex_waves.specs.Snapshots.{snapshot_in};
 ghost use Rattle.apex_waves.specs.Printing.{Grows, IsAt};
 ghost use Rattle.apex_waves.specs.Signals.{signals_of};
 ghost use Rattle.apex_waves.specs.declared.sheets.TheConstants.{SHEET_ROOM};
@@ -56,7 +56,7 @@ fn put_head<S: Store>(sheet: &mut Sheet, kernel: &Kernel<S>, signals: &[Signal])
     requires few { length signals.now ≤ MOST_SIGNALS }
     requires empty { sheet.old ≡ [] }
     ensures text { sheet.new
-        ≡ head_text kernel.now.table (moment_in kernel.now.table kernel.now.machine) }
+        ≡ head_text kernel.now.table (snapshot_in kernel.now.table kernel.now.machine) }
     ensures course { IsAt kernel.now.table kernel.now.machine result }
 {
     kernel.holds();

@@ -1,7 +1,7 @@
 //! The values of signals, and their changes.
 ghost use Rattle.std.specs.Prelude.{◌≡◌, ◌+◌, ◌*◌, ◌≤◌, ◌++◌, flat_map, length, map};
 ghost use Rattle.apex_waves.specs.Levels.{level_of};
-ghost use Rattle.apex_waves.specs.Moments.{Moment, moment_in};
+ghost use Rattle.apex_waves.specs.Snapshots.{Snapshot, snapshot_in};
 ghost use Rattle.apex_waves.specs.Values.{change_in, change_text, level_text, value_in, value_text};
 ghost use Rattle.apex_waves.specs.declared.sheets.TheConstants.{SHEET_ROOM};
 ghost use Rattle.apex_waves.specs.declared.signals.TheConstants.{MOST_SIGNALS};
@@ -87,9 +87,9 @@ pub(crate) fn put_values<S: Store>(
     requires few { length signals.now ≤ MOST_SIGNALS }
     requires room { length sheet.old + VALUE_ROOM * length signals.now ≤ SHEET_ROOM }
     ensures text { sheet.new ≡ sheet.old ++ flat_map (value_in kernel.now.table
-        (moment_in kernel.now.table kernel.now.machine)) signals.now }
+        (snapshot_in kernel.now.table kernel.now.machine)) signals.now }
     ensures levels { result.items
-        ≡ map (level_of (moment_in kernel.now.table kernel.now.machine)) signals.now }
+        ≡ map (level_of (snapshot_in kernel.now.table kernel.now.machine)) signals.now }
     ensures short { length sheet.new ≤ length sheet.old + VALUE_ROOM * length signals.now }
 {
     let mut levels = Levels::new();
@@ -111,11 +111,11 @@ pub(crate) fn put_changes<S: Store>(
     requires few { length signals.now ≤ MOST_SIGNALS }
     requires many { length before.now ≡ length signals.now }
     requires room { length sheet.old + VALUE_ROOM * length signals.now ≤ SHEET_ROOM }
-    ensures text { (old : Moment) → before.now ≡ map (level_of old) signals.now
+    ensures text { (old : Snapshot) → before.now ≡ map (level_of old) signals.now
         → sheet.new ≡ sheet.old ++ flat_map (change_in kernel.now.table old
-        (moment_in kernel.now.table kernel.now.machine)) signals.now }
+        (snapshot_in kernel.now.table kernel.now.machine)) signals.now }
     ensures levels { result.items
-        ≡ map (level_of (moment_in kernel.now.table kernel.now.machine)) signals.now }
+        ≡ map (level_of (snapshot_in kernel.now.table kernel.now.machine)) signals.now }
     ensures short { length sheet.new ≤ length sheet.old + VALUE_ROOM * length signals.now }
 {
     let mut after = Levels::new();

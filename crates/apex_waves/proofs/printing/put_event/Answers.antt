@@ -7,7 +7,7 @@ use Rattle.apex_waves.specs.Dumps.{time_line}
 use Rattle.apex_moments.specs.Instants.{instant_after}
 use Rattle.apex_waves.specs.Instants.{units}
 use Rattle.apex_waves.specs.Levels.{level_of}
-use Rattle.apex_waves.specs.Moments.{moment_in}
+use Rattle.apex_waves.specs.Snapshots.{snapshot_in}
 use Rattle.apex_waves.specs.Printing.{IsAt}
 use Rattle.apex_moments.specs.declared.instants.Instant.{Instant}
 use Rattle.apex_waves.specs.declared.signals.Signal.{Signal}
@@ -57,7 +57,7 @@ returns-clause-grows g c =
     (rw (c.now.ensures, c.requires.course.instant) at c.next-course.ensures)
     ∙ sym (instant_more table machine after c.args.event room new) in
     let time = rw (c.units.ensures, instant) at c.put_time.ensures.text in
-    let before = moment_in table machine in
+    let before = snapshot_in table machine in
     let were = c.as_slice.ensures.value ∙ c.requires.course.levels
     ∙ ap (λ (l : List Signal). map (level_of before) l) (sym c.requires.signals) in
     let changes = rw (kept, c.requires.signals) at (c.put_changes-course.ensures.text before were) in (

@@ -3,7 +3,7 @@ use Rattle.std.proofs.Common.{◌≡◌, ◌∙◌, ◌+◌, ◌<◌, ◌≤◌,
 use Rattle.std.proofs.lemmas.List.{take_all}
 use Rattle.std.specs.Prelude.{flat_map}
 use Rattle.apex_waves.specs.Levels.{level_of}
-use Rattle.apex_waves.specs.Moments.{moment_in}
+use Rattle.apex_waves.specs.Snapshots.{snapshot_in}
 use Rattle.apex_waves.specs.Values.{change_in}
 use Rattle.apex_waves.specs.declared.signals.Signal.{Signal}
 use Rattle.apex_waves.proofs.Nexts.{text_more, value_at, value_more}
@@ -13,7 +13,7 @@ pub loop-place-preserved : goal.loop-place-preserved
 loop-place-preserved g c =
     let at = c.loop-place.invariant in
     let table = c.args.kernel.now.table in
-    let moment = moment_in table c.args.kernel.now.machine in
+    let moment = snapshot_in table c.args.kernel.now.machine in
     let signals = c.args.signals.now in
     let i = c.loop-place.place in
     let signal = c.index-signals-place.result in
@@ -38,7 +38,7 @@ pub returns-clause-text : goal.returns-clause-text
 returns-clause-text g c = λ old are.
     let signals = c.args.signals.now in
     let table = c.args.kernel.now.table in
-    let moment = moment_in table c.args.kernel.now.machine in
+    let moment = snapshot_in table c.args.kernel.now.machine in
     let past : length signals ≤ c.loop-place.place = omega arith in
     c.loop-place.invariant.text old are
     ∙ ap (λ (l : List Signal). c.args.sheet.now ++ flat_map (change_in table old moment) l)

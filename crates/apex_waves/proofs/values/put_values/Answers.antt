@@ -1,7 +1,7 @@
 -- The next value follows those so far.
 use Rattle.std.proofs.Common.{◌≡◌, ◌∙◌, ◌+◌, ◌<◌, ◌++◌, ap, arith, get_or, length}
 use Rattle.apex_waves.specs.Levels.{level_of}
-use Rattle.apex_waves.specs.Moments.{moment_in}
+use Rattle.apex_waves.specs.Snapshots.{snapshot_in}
 use Rattle.apex_waves.specs.Values.{value_in}
 use Rattle.apex_waves.specs.declared.signals.Signal.{Signal}
 use Rattle.apex_waves.proofs.Nexts.{text_more, value_more}
@@ -11,7 +11,7 @@ pub loop-signal-preserved : goal.loop-signal-preserved
 loop-signal-preserved g c =
     let at = c.loop-signal.invariant in
     let table = c.args.kernel.now.table in
-    let moment = moment_in table c.args.kernel.now.machine in
+    let moment = snapshot_in table c.args.kernel.now.machine in
     let signals = c.args.signals.now in
     let i = c.loop-signal.signal-index in
     let signal = c.signal-item.result in
