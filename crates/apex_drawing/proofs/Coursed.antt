@@ -25,7 +25,8 @@ use Rattle.apex_drawing.specs.Courses.{IsAt}
 use Rattle.apex_drawing.specs.Drawing.{Grows}
 use Rattle.apex_drawing.specs.declared.courses.Course.{Course}
 use Rattle.apex_drawing.specs.declared.styles.Style.{Style}
-use Rattle.apex_drawing.proofs.Drawn.{drawn_more, run_next, so_far}
+use Rattle.apex_drawing.proofs.Drawn.{drawn_more, so_far}
+use Rattle.apex_moments.proofs.EventsOf.{run_next}
 
 -- a machine that replays is sound
 pub sound_replay : (table : Table) → IsLawful table → (machine : Machine) → replay table machine.history ≡ machine

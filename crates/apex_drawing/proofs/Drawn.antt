@@ -1,14 +1,10 @@
 -- The part of a picture that was written, and the part that is still to be.
-use Rattle.std.proofs.Common.{◌≡◌, ◌∙◌, ℕ, ◌+◌, ◌<◌, ◌≤◌, false, true, List, [], ◌∷◌, ◌++◌, Option, inl, inr, length, drop, get_or, add-one, refl, sym, ap, subst, append-nil, append_assoc}
-use Rattle.std.proofs.KnownBytes.{Appends-nil, Appends-trans}
-use Rattle.std.proofs.Math.Seq.{drop-cons}
-use Rattle.std.proofs.lemmas.Bool.{both_ways, cases_lt}
-use Rattle.std.proofs.lemmas.List.{drop_all}
+use Rattle.std.proofs.Common.{◌≡◌, ◌∙◌, ℕ, List, [], ◌∷◌, ◌++◌, Option, refl, sym, ap, subst, append-nil, append_assoc}
+use Rattle.std.proofs.KnownBytes.{Appends-nil}
 use Rattle.std.proofs.lemmas.Grind.{flat_map-append}
 use Rattle.std.specs.Prelude.{flat_map}
-use Rattle.apex_machine.specs.Machine.{Machine, accept, opening, run}
+use Rattle.apex_machine.specs.Machine.{Machine, opening, run}
 use Rattle.apex_machine.specs.table.Table.{Table}
-use Rattle.apex_laws.proofs.Runs.{accept-full}
 use Rattle.apex_history.specs.Counted.{AppendsBeginning}
 use Rattle.apex_history.specs.Page.{Passes}
 use Rattle.apex_history.proofs.Passing.{beginning_longer, passes_with}
@@ -18,15 +14,6 @@ use Rattle.apex_drawing.specs.Pictures.{column_text, columns_text, foot_text, he
 use Rattle.apex_moments.specs.Terms.{Event}
 use Rattle.apex_drawing.specs.declared.styles.Style.{Style}
 use Rattle.apex_moments.proofs.Pictured.{run_more}
-
--- one event more of a list
-pub run_next : (table : Table) (machine new : Machine) (events : List Event) (i : ℕ) (event : Event) (end : Machine)
-    → i < length events → event ≡ get_or events i event → new ≡ accept table machine event
-    → run table machine (drop i events) ≡ end → run table new (drop (i + 1) events) ≡ end
-run_next table machine new events i event end within here is before =
-    let next : drop i events ≡ event ∷ drop (i + 1) events = rw (drop-cons events i event within, ← here, add-one i) refl in
-    let taken : run table (accept table machine event) (drop (i + 1) events) ≡ end = rw next at before in
-    rw is taken
 
 -- the text of the columns so far
 abbrev pub so_far : Style → Table → Machine → List ℕ
@@ -76,10 +63,6 @@ pub passes_foot : (a b : Option (List ℕ)) (style : Style) (table : Table) (mac
 passes_foot a b style table machine held foot after passes is stands =
     rw (stands, is) (passes_with a b (so_far style table machine) held (foot_text style table machine) passes)
 
--- nothing was written yet
-pub nothing_yet : (a : Option (List ℕ)) (text : List ℕ) → AppendsBeginning a a text
-nothing_yet a text = ([], text, refl, Appends-nil a)
-
 -- the head is held, and nothing was written yet
 pub begun : (a : Option (List ℕ)) (style : Style) (table : Table) (machine : Machine) (text : List ℕ)
     → machine ≡ opening table → text ≡ head_text style table → Passes a a (so_far style table machine) text
@@ -87,27 +70,9 @@ begun a style table machine text opened is =
     let none : columns_text style table machine ≡ [] = rw opened refl in
     ([], ap (λ columns. head_text style table ++ columns) none ∙ append-nil (head_text style table) ∙ sym is, Appends-nil a)
 
--- all events were made
-pub run_ended : (table : Table) (machine : Machine) (events : List Event) (i : ℕ) (end : Machine)
-    → length events ≤ i → run table machine (drop i events) ≡ end → machine ≡ end
-run_ended table machine events i end past is = rw (drop_all i events past) at is
-
--- no column is added if the history is full
-pub nothing_more : (style : Style) (table : Table) (machine new : Machine) (event : Event) (text : List ℕ)
-    → table.limit ≤ length machine.history → new ≡ accept table machine event → Grows style table machine new text text
-nothing_more style table machine new event text full is =
-    ([], ap (picture table) (is ∙ accept-full table machine event full) ∙ sym (append-nil (picture table machine)), sym (append-nil text))
-
 -- one column is added
 pub one_column : (style : Style) (table : Table) (machine new : Machine) (column : Column) (text after : List ℕ)
     → picture table new ≡ picture table machine ++ column ∷ []
     → after ≡ text ++ column_text style table column → Grows style table machine new text after
 one_column style table machine new column text after more is =
     (column ∷ [], more, is ∙ ap (λ l. text ++ l) (sym (append-nil (column_text style table column))))
-
--- there is no room if having some is absurd
-pub no_room : (n limit : ℕ) → (n < limit → false ≡ true) → limit ≤ n
-no_room n limit none = elim (cases_lt n limit) [
-  | inl room ↦ absurd (both_ways false refl (none room))
-  | inr full ↦ full
-]

@@ -5,3 +5,4 @@ pub mod Pictured
 pub mod Order
 pub mod Counted
 pub mod Columns
+pub mod EventsOf

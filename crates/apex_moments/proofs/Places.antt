@@ -1,6 +1,5 @@
 -- The values of places.
-use Rattle.std.proofs.Common.{◌≡◌, ℕ, zero, suc, ◌<◌, List, [], ◌∷◌, ◌++◌, length, drop, get_or, set, arith, refl, sym, ◌∙◌, ap, length-append, append-nil, append_assoc, add-one, ◌+◌, inl, inr, subst}
-use Rattle.std.proofs.Math.ListN.{drop_of_length-le}
+use Rattle.std.proofs.Common.{◌≡◌, ℕ, zero, suc, ◌<◌, List, [], ◌∷◌, ◌++◌, length, drop, get_or, set, arith, refl, sym, ◌∙◌, ap, length-append, append_assoc, add-one, ◌+◌, inl, inr, subst}
 use Rattle.std.proofs.Math.Seq.{get_or-append_seam, set-append_seam}
 use Rattle.std.proofs.lemmas.Bool.{cases_lt}
 use Rattle.std.proofs.lemmas.List.{drop_more, get_or_append_left}
@@ -28,10 +27,6 @@ place_of f (suc n) i d within = elim (cases_lt i n) [
 pub found_at : {A : Type 0} → (f : ℕ → A) (n i : ℕ) → i < n → slice_get (of_places f n) i ≡ Some (f i)
 found_at f n i within =
     slice_get-get_or (of_places f n) i (f i) (rw (length_of f n) within) ∙ ap Some (place_of f n i (f i) within)
-
--- nothing follows a text
-pub text_alone : {A : Type 0} → (text : List A) → text ++ [] ≡ text
-text_alone text = append-nil text
 
 -- the text of the next thing follows those before it
 pub text_next : (f : ℕ → List ℕ) (n : ℕ) (before text after : List ℕ) → text ≡ before ++ texts_of f n
@@ -90,9 +85,3 @@ changed_at {A} f n old before after next within is put value =
     ∙ subst (λ (k : ℕ). set (done ++ kept ∷ rest) k next ≡ done ++ next ∷ rest) (length_of f n) (set-append_seam done kept rest next)
     ∙ ap (λ (x : A). done ++ x ∷ rest) value ∙ sym (append_assoc done (f n ∷ []) rest)
     ∙ ap (λ (l : List A). l ++ rest) (rw (add-one n) refl)
-
--- all places have their values
-pub all_changed : {A : Type 0} → (f : ℕ → A) (n : ℕ) (old after : List A) → length old ≡ n
-    → after ≡ of_places f n ++ drop n old → after ≡ of_places f n
-all_changed f n old after many is =
-    is ∙ ap (λ l. of_places f n ++ l) (drop_of_length-le old (omega (arith, many))) ∙ append-nil (of_places f n)

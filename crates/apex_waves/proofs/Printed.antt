@@ -1,11 +1,8 @@
 -- The part of a dump that was written, and the part that is still to be.
-use Rattle.std.proofs.Common.{◌≡◌, ◌∙◌, ℕ, ◌+◌, ◌<◌, ◌≤◌, List, [], ◌∷◌, ◌++◌, Option, length, refl, sym, add-one, ap, drop, get_or, subst, append-nil, append_assoc}
+use Rattle.std.proofs.Common.{◌≡◌, ◌∙◌, ℕ, List, [], ◌++◌, Option, refl, sym, ap, subst, append-nil, append_assoc}
 use Rattle.std.proofs.KnownBytes.{Appends-nil}
-use Rattle.std.proofs.Math.Seq.{drop-cons}
-use Rattle.std.proofs.lemmas.List.{drop_all}
-use Rattle.apex_machine.specs.Machine.{Machine, accept, opening, run}
+use Rattle.apex_machine.specs.Machine.{Machine, opening, run}
 use Rattle.apex_machine.specs.table.Table.{Table}
-use Rattle.apex_laws.proofs.Runs.{accept-full}
 use Rattle.apex_history.specs.Counted.{AppendsBeginning}
 use Rattle.apex_history.specs.Page.{Passes}
 use Rattle.apex_history.proofs.Passing.{beginning_longer, passes_with}
@@ -61,23 +58,3 @@ begun a table machine text opened is =
     let none : steps_text table machine ≡ [] = rw opened refl in
     let first : text ≡ head = is ∙ ap (λ (m : Machine). head_text table (snapshot_in table m)) opened in
     ([], ap (λ (l : List ℕ). head ++ l) none ∙ append-nil head ∙ sym first, Appends-nil a)
-
--- no step is added if the history is full
-pub nothing_more : (table : Table) (machine new : Machine) (event : Event) (text : List ℕ)
-    → table.limit ≤ length machine.history → new ≡ accept table machine event → Grows table machine new text text
-nothing_more table machine new event text full is =
-    ([], ap (steps_text table) (is ∙ accept-full table machine event full) ∙ sym (append-nil (steps_text table machine)), sym (append-nil text))
-
--- one event more of a list
-pub run_next : (table : Table) (machine new : Machine) (events : List Event) (i : ℕ) (event : Event) (end : Machine)
-    → i < length events → event ≡ get_or events i event → new ≡ accept table machine event
-    → run table machine (drop i events) ≡ end → run table new (drop (i + 1) events) ≡ end
-run_next table machine new events i event end within here is before =
-    let next : drop i events ≡ event ∷ drop (i + 1) events = rw (drop-cons events i event within, ← here, add-one i) refl in
-    let taken : run table (accept table machine event) (drop (i + 1) events) ≡ end = rw next at before in
-    rw is taken
-
--- all events were made
-pub run_ended : (table : Table) (machine : Machine) (events : List Event) (i : ℕ) (end : Machine)
-    → length events ≤ i → run table machine (drop i events) ≡ end → machine ≡ end
-run_ended table machine events i end past is = rw (drop_all i events past) at is

@@ -13,9 +13,10 @@ use Rattle.apex_drawing.specs.Pages.{pending}
 use Rattle.apex_drawing.specs.Pictures.{foot_text, picture_text}
 use Rattle.apex_traces.specs.Tracks.{bare}
 use Rattle.apex_drawing.proofs.Coursed.{drawn_next}
-use Rattle.apex_drawing.proofs.Drawn.{beginning_of_picture, begun, passes_foot, run_ended, unwritten}
+use Rattle.apex_drawing.proofs.Drawn.{beginning_of_picture, begun, passes_foot, unwritten}
 use Rattle.apex_moments.proofs.Pictured.{pictured_opening}
 use Rattle.apex_drawing.proofs.Followed.{follows}
+use Rattle.apex_moments.proofs.EventsOf.{run_ended}
 use Rattle.apex_drawing.proofs.drawing.draw.Goals as goal
 
 pub put_head-requires : goal.put_head-requires

@@ -7,8 +7,9 @@ use Rattle.apex_history.proofs.Outcomes.{OnErr-always}
 use Rattle.apex_history.proofs.Passing.{beginning_after, passes_all, passes_then}
 use Rattle.apex_waves.specs.Dumps.{dump_text}
 use Rattle.apex_waves.specs.Printing.{Grows, IsFollowed}
-use Rattle.apex_waves.proofs.Printed.{begun, beginning_of_dump, passes_end, printed_more, run_ended, run_next}
+use Rattle.apex_waves.proofs.Printed.{begun, beginning_of_dump, passes_end, printed_more}
 use Rattle.apex_waves.proofs.Steps.{followed_accept, followed_opening}
+use Rattle.apex_moments.proofs.EventsOf.{run_ended, run_next}
 use Rattle.apex_waves.proofs.printing.print_waves.Goals as goal
 
 pub loop-event-init : goal.loop-event-init
