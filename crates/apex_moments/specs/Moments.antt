@@ -1,5 +1,5 @@
 -- The processes and the counts after an entry, as a picture shows them, and the columns of a picture.
-use Rattle.std.specs.Prelude.{◌≡◌, ℕ, List, [], ◌∷◌, ◌++◌, length, Option, None}
+use Rattle.std.specs.Prelude.{◌≡◌, ◌==◌, ℕ, Bool, true, false, List, [], ◌∷◌, ◌++◌, length, Option, None, Some}
 use Rattle.apex_moments.specs.Counts.{Counts, counts_after, counts_of, no_counts}
 use Rattle.apex_moments.specs.Instants.{instant_after}
 use Rattle.apex_moments.specs.declared.instants.Instant.{Instant}
@@ -28,6 +28,13 @@ no_cell = record { state = Dormant; wait = None; owned = [] }
 -- the process that each core runs: its chosen one
 abbrev pub running_in : Roster → List (Option ℕ)
 running_in roster = of_places (chosen roster) MOST_CORES
+
+-- two processes are the same, or both are none
+abbrev pub same_process : Option ℕ → Option ℕ → Bool
+same_process None None = true
+same_process None (Some q) = false
+same_process (Some p) None = false
+same_process (Some p) (Some q) = p == q
 
 -- a cell for each process, the process that each core runs, and the counts of the objects
 pub record Shown : Type 0 where

@@ -4,7 +4,7 @@ ghost use Rattle.apex_types.specs.declared.limits.TheConstants.{MOST_CORES, MOST
 ghost use Rattle.apex_machine.specs.processes.Running.{chosen, is_eligible, is_process};
 ghost use Rattle.apex_types.specs.declared.modes.State.TheVariants.{Dormant, Ready, Running, Waiting};
 ghost use Rattle.apex_dispatch.specs.Situations.{situation_in};
-ghost use Rattle.apex_moments.specs.Moments.{cell_of, moment_at, moment_of, no_cell, running_in};
+ghost use Rattle.apex_moments.specs.Moments.{cell_of, moment_at, moment_of, no_cell, running_in, same_process};
 
 use crate::counts::{Counts, counts_of};
 use apex_configs::Table;
@@ -117,6 +117,20 @@ pub fn running_at(running: &[Option<ProcessId>], core: CoreId) -> Option<Process
     match running.get(usize::from(core.number())) {
         Some(running) => *running,
         None => None,
+    }
+}
+
+/// Whether two processes are the same, or both are none.
+#[inline(always)]
+pub fn is_same_process(before: &Option<ProcessId>, after: &Option<ProcessId>) -> bool
+    ensures { result ≡ same_process before.now after.now }
+{
+    match before {
+        Some(before) => match after {
+            Some(after) => before == after,
+            None => false,
+        },
+        None => after.is_none(),
     }
 }
 

@@ -14,7 +14,7 @@ use Rattle.apex_traces.specs.Trace.{objects_text}
 use Rattle.apex_traces.specs.Arrows.{arrow_id, goal_of, has_slice, head_at, head_of, head_to, roused, tail_at, tail_of, tail_to}
 use Rattle.apex_traces.specs.Calls.{call_of}
 use Rattle.apex_moments.specs.Counts.{Counts}
-use Rattle.apex_moments.specs.Moments.{Shown, cell_of, moment_of, no_cell, none_shown, running_in}
+use Rattle.apex_moments.specs.Moments.{Shown, cell_of, moment_of, no_cell, none_shown, running_in, same_process}
 use Rattle.apex_moments.specs.Places.{of_places}
 use Rattle.apex_moments.specs.Terms.{Caller, Entry, Notice, State}
 use Rattle.apex_moments.specs.declared.moments.Cell.{Cell}
@@ -202,7 +202,7 @@ foot_same table time last =
     ap (λ l. l ++ trace.mutexes_text table time last.counts.owners [] ++ codes "\n]}\n") (changes_same table time last none_shown)
 
 -- two processes that are the same
-pub same_found : (before after : Option ℕ) → trace.same_process before after ≡ true → before ≡ after
+pub same_found : (before after : Option ℕ) → same_process before after ≡ true → before ≡ after
 same_found None None is = refl
 same_found None (Some q) is = cc
 same_found (Some p) None is = cc
@@ -243,7 +243,7 @@ process_still table time p before after text is =
 
 -- nothing is put if a core runs the process that it ran
 pub core_still : (table : Table) (time core : ℕ) (before after was is : Option ℕ) (text : List ℕ) → before ≡ was → after ≡ is
-    → trace.same_process before after ≡ true
+    → same_process before after ≡ true
     → text ≡ text ++ trace.core_text table (trace.core_spot core time) was is
 core_still table time core before after was is text v w same =
     let nothing : trace.core_text table (trace.core_spot core time) was is ≡ [] = rw (← v, ← w, same) refl in
@@ -251,7 +251,7 @@ core_still table time core before after was is text v w same =
 
 -- the end of a slice and the beginning of the next one are put if it runs another one
 pub core_switched : (table : Table) (time core : ℕ) (before after was is : Option ℕ) (text whole : List ℕ) → before ≡ was → after ≡ is
-    → trace.same_process before after ≡ false
+    → same_process before after ≡ false
     → whole ≡ text ++ (trace.ended (is_some before) (trace.core_spot core time) ++ trace.run_of table (trace.core_spot core time) after)
     → whole ≡ text ++ trace.core_text table (trace.core_spot core time) was is
 core_switched table time core before after was is text whole v w differs put = rw (← v, ← w, differs) put

@@ -1,7 +1,7 @@
 -- A picture as a trace in the Trace Event Format, which is JSON. The groups of tracks are the cores (1), the
 -- processes (2), the objects (3), of which the mutexes have tracks and the others counters, and the partition
 -- (4), with tracks of the init list and of the ticks. The axis has microseconds, and times are nanoseconds.
-use Rattle.std.specs.Prelude.{ℕ, ◌+◌, Bool, true, false, List, [], ◌∷◌, ◌++◌, Option, None, Some, is_some, codes, decimal, flat_map, length, slice_index_or, if◌then◌else◌, ◌==◌}
+use Rattle.std.specs.Prelude.{ℕ, ◌+◌, Bool, List, [], ◌∷◌, ◌++◌, Option, None, Some, is_some, codes, decimal, flat_map, length, slice_index_or, if◌then◌else◌}
 use Rattle.apex_machine.specs.text.Texts.{id_text, mutex_name, process_name}
 use Rattle.apex_calls.specs.Lines.{code_text, deadline_text}
 use Rattle.apex_machine.specs.text.Listing.{texts_of}
@@ -12,7 +12,7 @@ use Rattle.apex_traces.specs.Calls.{call_of}
 use Rattle.apex_traces.specs.Counters.{counters_text}
 use Rattle.apex_moments.specs.Counts.{Counts, no_counts}
 use Rattle.apex_traces.specs.Times.{time_text}
-use Rattle.apex_moments.specs.Moments.{Shown, no_cell, none_shown}
+use Rattle.apex_moments.specs.Moments.{Shown, no_cell, none_shown, same_process}
 use Rattle.apex_traces.specs.Stamps.{begin_back, group_number}
 use Rattle.apex_moments.specs.Texts.{texts}
 use Rattle.apex_moments.specs.Words.{profile_number}
@@ -108,13 +108,6 @@ owned_text table spot (Some p) = slice_text spot (json_text (process_name table 
 -- the end of a slice, if there is one
 abbrev pub ended : Bool → Spot → List ℕ
 ended begun spot = if begun then end_text spot else []
-
--- two processes are the same, or both are none
-abbrev pub same_process : Option ℕ → Option ℕ → Bool
-same_process None None = true
-same_process None (Some q) = false
-same_process (Some p) None = false
-same_process (Some p) (Some q) = p == q
 
 -- the changes on the track of a core
 abbrev pub core_text : Table → Spot → Option ℕ → Option ℕ → List ℕ

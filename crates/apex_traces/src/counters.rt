@@ -97,10 +97,34 @@ fn add_first_counts(piece: &mut Piece, table: &Table, first: &Counts)
     ensures { piece.new.items ≡ piece.old.items ++ counters_text table.now 0 no_counts first.now }
 {
     let stamp = Timed::new(0);
-    add_firsts(piece, table, &stamp, Kind::Semaphore, first.values());
-    add_firsts(piece, table, &stamp, Kind::Buffer, first.contents());
-    add_firsts(piece, table, &stamp, Kind::Blackboard, first.displays());
-    add_firsts(piece, table, &stamp, Kind::EventFlag, first.flags());
+    add_firsts(
+        piece,
+        table,
+        &stamp,
+        Kind::Semaphore,
+        first.values.as_slice(),
+    );
+    add_firsts(
+        piece,
+        table,
+        &stamp,
+        Kind::Buffer,
+        first.contents.as_slice(),
+    );
+    add_firsts(
+        piece,
+        table,
+        &stamp,
+        Kind::Blackboard,
+        first.displays.as_slice(),
+    );
+    add_firsts(
+        piece,
+        table,
+        &stamp,
+        Kind::EventFlag,
+        first.flags.as_slice(),
+    );
 }
 
 /// Puts the counts before the first entry.

@@ -31,7 +31,9 @@ use apex_configs::Table;
 use apex_dispatch::Situation;
 use apex_history::{code_word, deadline_word};
 use apex_json::MOST_ESCAPE;
-use apex_moments::{CORES, Part, id_part, profile_number, put, put_all, running_at};
+use apex_moments::{
+    CORES, Part, id_part, is_same_process, profile_number, put, put_all, running_at,
+};
 use apex_names::process_name;
 use apex_store::Store;
 use apex_types::{CoreId, LentEntry, MOST_NAME, MOST_NOTICES, MutexId, Notice, ProcessId};
@@ -245,19 +247,6 @@ pub(crate) fn add_ended(piece: &mut Piece, spot: Spot, stamp: &Timed, begun: boo
 {
     if begun {
         add_end(piece, spot, stamp);
-    }
-}
-
-#[inline(always)]
-pub(crate) fn is_same_process(before: &Option<ProcessId>, after: &Option<ProcessId>) -> bool
-    ensures { result ≡ trace.same_process before.now after.now }
-{
-    match before {
-        Some(before) => match after {
-            Some(after) => before == after,
-            None => false,
-        },
-        None => after.is_none(),
     }
 }
 
@@ -660,7 +649,7 @@ fn add_foot(piece: &mut Piece, table: &Table, time: u64, stamp: &Timed, last: &T
 {
     add_cores(piece, table, time, stamp, last.running(), &[]);
     add_ends(piece, table, time, stamp, last.tracks());
-    add_mutex_ends(piece, table, time, stamp, last.counts().owners());
+    add_mutex_ends(piece, table, time, stamp, last.counts().owners.as_slice());
 }
 
 /// Puts what comes after the columns: the ends of all slices. Fails only for want of memory.

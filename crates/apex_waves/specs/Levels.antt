@@ -1,8 +1,9 @@
 -- What the signals of a dump show.
-use Rattle.std.specs.Prelude.{ℕ, Bool, true, false, Option, None, Some, ◌==◌}
+use Rattle.std.specs.Prelude.{Bool, true, false, ◌==◌}
 use Rattle.apex_machine.specs.processes.Owners.{owner}
 use Rattle.apex_machine.specs.processes.Running.{chosen, process_state}
 use Rattle.apex_moments.specs.Counts.{content_of, displayed_on, raised_of, value_of}
+use Rattle.apex_moments.specs.Moments.{same_process}
 use Rattle.apex_types.specs.declared.modes.State.{State}
 use Rattle.apex_types.specs.declared.modes.State.TheVariants.{Dormant, Ready, Running, Waiting}
 use Rattle.apex_waves.specs.Snapshots.{Snapshot}
@@ -30,13 +31,6 @@ same_state Ready Ready = true
 same_state Running Running = true
 same_state Waiting Waiting = true
 same_state state other = false
-
--- two processes are the same, or both are none
-abbrev pub same_process : Option ℕ → Option ℕ → Bool
-same_process None None = true
-same_process None (Some q) = false
-same_process (Some p) None = false
-same_process (Some p) (Some q) = p == q
 
 -- two levels are the same
 abbrev pub same_level : Level → Level → Bool

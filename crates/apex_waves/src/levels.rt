@@ -1,12 +1,12 @@
 //! The levels of the signals: what each shows at a moment.
 ghost use Rattle.std.specs.Prelude.{◌≡◌};
 ghost use Rattle.apex_machine.specs.processes.Running.{process_state};
-ghost use Rattle.apex_waves.specs.Levels.{level_of, same_level, same_process, same_state};
+ghost use Rattle.apex_waves.specs.Levels.{level_of, same_level, same_state};
 ghost use Rattle.apex_waves.specs.Snapshots.{snapshot_in, snapshot_of};
 
 use crate::signals::{MOST_SIGNALS, Signal};
 use apex_dispatch::Kernel;
-use apex_moments::{content_of, displayed_on, raised_of, value_of};
+use apex_moments::{content_of, displayed_on, is_same_process, raised_of, value_of};
 use apex_services::Objects;
 use apex_store::Store;
 use apex_types::{ProcessId, State};
@@ -63,18 +63,6 @@ pub(crate) fn level_of<S: Store>(kernel: &Kernel<S>, signal: &Signal) -> Level
     ensures { result ≡ level_of (snapshot_in kernel.now.table kernel.now.machine) signal.now }
 {
     level_in(kernel.store(), kernel.situation().objects(), signal)
-}
-
-fn is_same_process(before: &Option<ProcessId>, after: &Option<ProcessId>) -> bool
-    ensures { result ≡ same_process before.now after.now }
-{
-    match before {
-        Some(before) => match after {
-            Some(after) => before == after,
-            None => false,
-        },
-        None => after.is_none(),
-    }
 }
 
 fn is_same_state(before: State, after: State) -> bool
