@@ -21,4 +21,5 @@ HasTracks (Trace tick) tracks n = length tracks.cells ≡ n
 -- there are counts of all objects of a table, and a place for each core that may be, if a trace is drawn
 abbrev pub Fits : Style → Shown → Table → Type 0
 Fits (Svg frame) tracks table = Unit {0}
-Fits (Trace tick) tracks table = HasCounts tracks.counts table × (length tracks.running ≡ MOST_CORES)
+Fits (Trace tick) tracks table =
+    HasCounts tracks.counts table × (length tracks.running ≡ MOST_CORES)

@@ -256,7 +256,8 @@ dash_text frame caller notice = texts (
 -- the line from the ring of the caller, if a process calls, to the mark of a notice, if both have a row
 abbrev pub dash_to : Frame → Caller → Notice → List ℕ
 dash_to frame (Process p) notice =
-    if has_row frame p && has_row frame (notice_process notice) then dash_text frame p notice else []
+    if has_row frame p && has_row frame (notice_process notice)
+    then dash_text frame p notice else []
 dash_to frame Init notice = []
 dash_to frame Nobody notice = []
 
@@ -266,8 +267,8 @@ wedge_text frame notice = texts (
     codes "<path class='" ∷ notice_word notice ∷ codes "' data-process='"
     ∷ id_text (notice_process notice)
     ∷ codes "' d='" ∷ corner_text notice ∷ decimal (row_of frame (notice_process notice) + 2)
-    ∷ outline_text notice ∷ codes "'><title>" ∷ notice_word notice ∷ codes " " ∷ id_text (notice_process notice) ∷ codes "</title></path>\n"
-    ∷ [])
+    ∷ outline_text notice ∷ codes "'><title>" ∷ notice_word notice ∷ codes " "
+    ∷ id_text (notice_process notice) ∷ codes "</title></path>\n" ∷ [])
 
 -- the mark of a notice, if its process has a row
 abbrev pub wedge_at : Frame → Notice → List ℕ

@@ -44,4 +44,5 @@ end_text machine = time_line (end_time machine)
 -- the dump of a machine
 abbrev pub dump_text : Table → Machine → List ℕ
 dump_text table machine =
-    head_text table (snapshot_in table (opening table)) ++ steps_text table machine ++ end_text machine
+    head_text table (snapshot_in table (opening table)) ++ steps_text table machine
+    ++ end_text machine

@@ -12,7 +12,8 @@ use Rattle.apex_waves.specs.declared.printing.Course.{Course}
 -- the dump has further steps, and their text follows the text
 abbrev pub Grows : Table → Machine → Machine → List ℕ → List ℕ → Type 0
 Grows table old new before after =
-    (more : List ℕ) × (steps_text table new ≡ steps_text table old ++ more) × (after ≡ before ++ more)
+    (more : List ℕ) × (steps_text table new ≡ steps_text table old ++ more)
+    × (after ≡ before ++ more)
 
 -- the instant and the levels are those of a machine
 pub record IsAt (table : Table) (machine : Machine) (course : Course) : Type 0 where
