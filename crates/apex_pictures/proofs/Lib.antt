@@ -3,4 +3,4 @@ pub mod Times
 pub mod Apart
 pub mod Joined
 pub mod Numbers
-pub mod Idle
+pub mod Eventless

@@ -17,13 +17,14 @@ timed entry = record { number = entry.number; now = entry.now }
 abbrev pub never : Timed
 never = record { number = 0; now = 0 }
 
--- an entry is idle, an idle turn or a tick at which nothing happens: it has neither a call nor a notice
-abbrev pub is_idle : Entry → Bool
-is_idle entry = is_none entry.call && length entry.notices == 0
+-- an entry is eventless: an idle turn, or a tick at which nothing happens. It has neither a call nor a
+-- notice.
+abbrev pub is_eventless : Entry → Bool
+is_eventless entry = is_none entry.call && length entry.notices == 0
 
--- an entry is not folded: it is not idle, or idle entries are not folded
+-- an entry is not folded: it is not eventless, or eventless entries are not folded
 abbrev pub is_unfolded : Bool → Entry → Bool
-is_unfolded fold entry = not (fold && is_idle entry)
+is_unfolded fold entry = not (fold && is_eventless entry)
 
 -- an entry has a column in an extent: it is one of the extent's, and it is not folded
 abbrev pub has_column : Extent → Entry → Bool

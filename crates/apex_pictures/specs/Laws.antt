@@ -3,7 +3,7 @@ use Rattle.std.specs.Prelude.{◌≡◌, ◌+◌, ◌-◌, ◌*◌, ◌<◌, ◌
 use Rattle.apex_machine.specs.Machine.{opening, run}
 use Rattle.apex_machine.specs.table.Table.{IsLawful, Table}
 use Rattle.apex_pictures.specs.Axes.{all_ticks, place_of, time_of}
-use Rattle.apex_pictures.specs.Excerpts.{columns_of, drawn_at, is_idle}
+use Rattle.apex_pictures.specs.Excerpts.{columns_of, drawn_at, is_eventless}
 use Rattle.apex_moments.specs.Moments.{picture}
 use Rattle.apex_moments.specs.Terms.{Entry, Event}
 use Rattle.apex_scales.specs.declared.Axis.{Axis}
@@ -39,8 +39,8 @@ ColumnsAreApart = (axis : Axis) (table : Table) → IsLawful table → (events :
     → n + 1 < length (take many (drop others (columns_of extent (history_of table events))))
     → AreApart axis (take many (drop others (columns_of extent (history_of table events)))) n
 
--- in the picture of every run, the cells after an idle entry are those before it
-abbrev pub IdleCellsStay : Type 0
-IdleCellsStay = (table : Table) → (events : List Event)
-    → All (λ column. is_idle column.entry ≡ true → column.after.cells ≡ column.before.cells)
+-- in the picture of every run, the cells after an eventless entry are those before it
+abbrev pub EventlessCellsStay : Type 0
+EventlessCellsStay = (table : Table) → (events : List Event)
+    → All (λ column. is_eventless column.entry ≡ true → column.after.cells ≡ column.before.cells)
     (picture table (run table (opening table) events))

@@ -15,7 +15,7 @@ use std::alloc::{AllocError, Global};
 /// The columns of a picture.
 #[derive(Drop)]
 pub struct Columns {
-    /// Whether idle entries are folded: they have no column.
+    /// Whether eventless entries are folded: they have no column.
     pub(crate) fold: bool,
     /// The entries that have a column.
     pub drawn: Vec<Timed>,

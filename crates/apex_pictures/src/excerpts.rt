@@ -1,6 +1,6 @@
 //! What a picture shows of the entries that it is asked to show.
 ghost use Rattle.std.specs.Prelude.{◌≡◌, ◌≤◌, length};
-ghost use Rattle.apex_pictures.specs.Excerpts.{cut, excerpt_in, first_number, has_column, is_idle, is_unfolded, last_number, left_out, timed};
+ghost use Rattle.apex_pictures.specs.Excerpts.{cut, excerpt_in, first_number, has_column, is_eventless, is_unfolded, last_number, left_out, timed};
 ghost use Rattle.apex_pictures.specs.declared.excerpts.TheConstants.{MOST_COLUMNS};
 
 use apex_types::LentEntry;
@@ -26,7 +26,7 @@ pub struct Extent {
     pub last: u32,
     /// The side on which columns are drawn, if they are too many.
     pub side: Side,
-    /// Whether idle entries are folded: they have no column.
+    /// Whether eventless entries are folded: they have no column.
     pub fold: bool,
 }
 
@@ -51,8 +51,8 @@ pub struct Timed {
 }
 
 /// Whether the entry is an idle turn, or a tick at which nothing happens.
-fn is_idle(entry: &LentEntry<'_>) -> bool
-    ensures { result ≡ is_idle entry.entry.now }
+fn is_eventless(entry: &LentEntry<'_>) -> bool
+    ensures { result ≡ is_eventless entry.entry.now }
 {
     entry.call.is_none() && entry.notices.is_empty()
 }
@@ -61,7 +61,7 @@ fn is_idle(entry: &LentEntry<'_>) -> bool
 pub(crate) fn is_unfolded(fold: bool, entry: &LentEntry<'_>) -> bool
     ensures { result ≡ is_unfolded fold entry.entry.now }
 {
-    !(fold && is_idle(entry))
+    !(fold && is_eventless(entry))
 }
 
 impl Timed {

@@ -16,7 +16,7 @@ pub use borders::{put_foot, put_head};
 pub use columns::Columns;
 pub use excerpts::{Excerpt, Extent, MOST_COLUMNS, Side, Timed};
 pub use frames::Frame;
-pub use laws::{columns_are_apart, idle_cells_stay};
+pub use laws::{columns_are_apart, eventless_cells_stay};
 pub use marks::Mark;
 pub use rows::{Rows, Selection};
 pub use svg::put_column;

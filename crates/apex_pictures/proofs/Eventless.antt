@@ -1,4 +1,4 @@
--- At an idle entry no process changes.
+-- At an eventless entry no process changes.
 use Rattle.std.proofs.Common.{◌≡◌, ◌∙◌, ℕ, ◌+◌, ◌<◌, true, ◌==◌, List, [], ◌∷◌, ◌++◌, inl, inr, All, Option, None, Some, ap, arith, length, length-append, refl, subst, sym}
 use Rattle.std.specs.List.{last_or}
 use Rattle.std.specs.Prelude.{is_none}
@@ -27,8 +27,8 @@ use Rattle.apex_moments.specs.Places.{of_places}
 use Rattle.apex_moments.specs.Terms.{Entry, Event}
 use Rattle.apex_moments.specs.declared.moments.Cell.{Cell}
 use Rattle.apex_moments.proofs.Pictured.{column_more, pictured_accept, pictured_opening}
-use Rattle.apex_pictures.specs.Excerpts.{is_idle}
-use Rattle.apex_pictures.specs.Laws.{IdleCellsStay}
+use Rattle.apex_pictures.specs.Excerpts.{is_eventless}
+use Rattle.apex_pictures.specs.Laws.{EventlessCellsStay}
 
 -- without a notice, the roster is the one that was
 abbrev IsUntouched : Roster → Roster → List Notice → Type 0
@@ -94,7 +94,7 @@ module _ (table : Table) (machine : Machine) where
   abbrev added : Event → Entry
   added event = entry_of (length machine.history + 1) (who_of event) (deed_at table machine (objects_after table machine.history) event)
 
-  cells_stay : (event : Event) → is_idle (added event) ≡ true → cells_in (happened table machine event).roster ≡ cells_in machine.roster
+  cells_stay : (event : Event) → is_eventless (added event) ≡ true → cells_in (happened table machine event).roster ≡ cells_in machine.roster
   cells_stay (Turn core) idle =
       let objects = objects_after table machine.history in
       let due = due_call table (situation_of table machine) core in
@@ -108,7 +108,7 @@ module _ (table : Table) (machine : Machine) where
 
 -- no cell changes in a column, if its entry is idle
 abbrev IsStill : Column → Type 0
-IsStill column = is_idle column.entry ≡ true → column.after.cells ≡ column.before.cells
+IsStill column = is_eventless column.entry ≡ true → column.after.cells ≡ column.before.cells
 
 last_put : {A : Type 0} (o : Option A) (xs : List A) (x : A) → last_or o (xs ++ x ∷ []) ≡ Some x
 last_put o [] x = refl
@@ -136,5 +136,5 @@ still_run table (event ∷ events) machine pictured still =
     still_run table events (accept table machine event) (pictured_accept table machine pictured event)
     (still_accept table machine pictured event still)
 
-pub idle_cells_stay : IdleCellsStay
-idle_cells_stay table events = still_run table events (opening table) (pictured_opening table) (All-nil IsStill)
+pub eventless_cells_stay : EventlessCellsStay
+eventless_cells_stay table events = still_run table events (opening table) (pictured_opening table) (All-nil IsStill)
