@@ -24,6 +24,7 @@ use Rattle.apex_json.specs.Strings.{json_text}
 use Rattle.apex_traces.specs.declared.calls.Lasting.{Lasting}
 use Rattle.apex_traces.specs.declared.stamps.Group.TheVariants.{Cores, Processes, Objects}
 use Rattle.apex_traces.specs.declared.trace.Spot.{Spot}
+use Rattle.apex_traces.specs.declared.trace.TheConstants.{VERSION}
 
 -- the name of a core's track, and its place among those of the cores
 unfoldable pub core_name_text : ℕ → List ℕ
@@ -53,7 +54,8 @@ mutex_name_text table m = texts (
 -- groups, and the tracks of the init list and of the ticks
 unfoldable pub opening_text : Table → List ℕ
 opening_text table = texts (
-    codes "{\"displayTimeUnit\":\"ms\",\"otherData\":{\"program\":\"apex\",\"version\":\"0.6.0\",\"profile\":"
+    codes "{\"displayTimeUnit\":\"ms\",\"otherData\":{\"program\":\"apex\",\"version\":\"" ∷ VERSION.now
+    ∷ codes "\",\"profile\":"
     ∷ decimal (profile_number table.profile)
     ∷ codes "},\"traceEvents\":[\n{\"ph\":\"M\",\"pid\":1,\"name\":\"process_name\",\"args\":{\"name\":\"cores\"}},\n{\"ph\":\"M\",\"pid\":2,\"name\":\"process_name\",\"args\":{\"name\":\"processes\"}},\n{\"ph\":\"M\",\"pid\":3,\"name\":\"process_name\",\"args\":{\"name\":\"objects\"}},\n{\"ph\":\"M\",\"pid\":4,\"name\":\"process_name\",\"args\":{\"name\":\"partition\"}},\n{\"ph\":\"M\",\"pid\":4,\"tid\":1,\"name\":\"thread_name\",\"args\":{\"name\":\"init\"}},\n{\"ph\":\"M\",\"pid\":4,\"tid\":1,\"name\":\"thread_sort_index\",\"args\":{\"sort_index\":1}},\n{\"ph\":\"M\",\"pid\":4,\"tid\":2,\"name\":\"thread_name\",\"args\":{\"name\":\"ticks\"}},\n{\"ph\":\"M\",\"pid\":4,\"tid\":2,\"name\":\"thread_sort_index\",\"args\":{\"sort_index\":2}}" ∷ [])
 

@@ -39,6 +39,9 @@ use apex_store::Store;
 use apex_types::{CoreId, LentEntry, MOST_NAME, MOST_NOTICES, MutexId, Notice, ProcessId};
 use std::alloc::AllocError;
 
+/// The version of the programs.
+const VERSION: &str = "0.6.0";
+
 /// The place of a slice or a mark in a trace: its group, its track and its time.
 #[derive(Clone, Copy)]
 pub(crate) struct Spot {
@@ -117,8 +120,10 @@ fn put_opening(text: &mut Vec<u8>, table: &Table) -> Result<(), AllocError>
         text,
         &[
             Part::Plain(
-                "{\"displayTimeUnit\":\"ms\",\"otherData\":{\"program\":\"apex\",\"version\":\"0.6.0\",\"profile\":",
+                "{\"displayTimeUnit\":\"ms\",\"otherData\":{\"program\":\"apex\",\"version\":\"",
             ),
+            Part::Plain(VERSION),
+            Part::Plain("\",\"profile\":"),
             Part::Number(profile_number(table.profile())),
             Part::Plain(
                 "},\"traceEvents\":[\n{\"ph\":\"M\",\"pid\":1,\"name\":\"process_name\",\"args\":{\"name\":\"cores\"}},\n{\"ph\":\"M\",\"pid\":2,\"name\":\"process_name\",\"args\":{\"name\":\"processes\"}},\n{\"ph\":\"M\",\"pid\":3,\"name\":\"process_name\",\"args\":{\"name\":\"objects\"}},\n{\"ph\":\"M\",\"pid\":4,\"name\":\"process_name\",\"args\":{\"name\":\"partition\"}},\n{\"ph\":\"M\",\"pid\":4,\"tid\":1,\"name\":\"thread_name\",\"args\":{\"name\":\"init\"}},\n{\"ph\":\"M\",\"pid\":4,\"tid\":1,\"name\":\"thread_sort_index\",\"args\":{\"sort_index\":1}},\n{\"ph\":\"M\",\"pid\":4,\"tid\":2,\"name\":\"thread_name\",\"args\":{\"name\":\"ticks\"}},\n{\"ph\":\"M\",\"pid\":4,\"tid\":2,\"name\":\"thread_sort_index\",\"args\":{\"sort_index\":2}}",
