@@ -1,7 +1,7 @@
 """The axis of a trace, on which the moments of one tick follow one another: docs/DECISIONS.md, 60."""
 import decimal
 
-TICK, WHOLE = 1000, 100
+TICK, WIDE_MOMENTS = 1000, 100
 
 
 def instants_of(lines):
@@ -10,6 +10,6 @@ def instants_of(lines):
     for line in lines:
         words = line.split(" ")
         now, place = (now, place + 1) if int(words[1]) == now else (int(words[1]), 0)
-        within = place if place < WHOLE else WHOLE + decimal.Decimal(place - WHOLE) / 100
+        within = place if place < WIDE_MOMENTS else WIDE_MOMENTS + decimal.Decimal(place - WIDE_MOMENTS) / 100
         found.append((decimal.Decimal(now) * TICK + within, words))
     return found

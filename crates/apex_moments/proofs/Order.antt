@@ -10,38 +10,39 @@ use Rattle.apex_moments.specs.Instants.{instant_after, next_instant, time_at, wi
 use Rattle.apex_moments.specs.Laws.{AreInOrder}
 use Rattle.apex_moments.specs.Terms.{Event}
 use Rattle.apex_moments.specs.declared.instants.Instant.{Instant}
+use Rattle.apex_moments.specs.declared.instants.TheConstants.{WIDE_MOMENTS}
 use Rattle.apex_scales.specs.declared.ticks.TheConstants.{LEAST_TICK}
 use Rattle.apex_moments.proofs.NextInstants.{place_within}
 use Rattle.apex_moments.proofs.Pictured.{instant_more, timed_machine}
 
 -- the next place comes after this one
 within_rises : (tick p : ℕ) → LEAST_TICK ≤ tick → within_tick tick p < within_tick tick (p + 1)
-within_rises tick p long = elim (cases_lt (p + 1) 100) [
-  | inl few ↦ rw (lt-ltb p 100 (omega (arith, few)), lt-ltb (p + 1) 100 few) (omega (arith, long, mul-suc tick p))
-  | inr more ↦ elim (cases_lt p 100) [
+within_rises tick p long = elim (cases_lt (p + 1) WIDE_MOMENTS) [
+  | inl few ↦ rw (lt-ltb p WIDE_MOMENTS (omega (arith, few)), lt-ltb (p + 1) WIDE_MOMENTS few) (omega (arith, long, mul-suc tick p))
+  | inr more ↦ elim (cases_lt p WIDE_MOMENTS) [
     | inl last ↦
         let here : p ≡ 99 = omega (arith, last, more) in
-        rw (lt-ltb p 100 last, le-ltb (p + 1) 100 more) (omega (arith, long, ap (λ k. tick * k) here))
+        rw (lt-ltb p WIDE_MOMENTS last, le-ltb (p + 1) WIDE_MOMENTS more) (omega (arith, long, ap (λ k. tick * k) here))
     | inr past ↦
-        let next : p + 1 - 100 ≡ suc (p - 100) = omega (arith, past) in
-        rw (le-ltb p 100 past, le-ltb (p + 1) 100 more)
-        (omega (arith, long, ap (λ k. tick * k) next, mul-suc tick (p - 100)))
+        let next : p + 1 - WIDE_MOMENTS ≡ suc (p - WIDE_MOMENTS) = omega (arith, past) in
+        rw (le-ltb p WIDE_MOMENTS past, le-ltb (p + 1) WIDE_MOMENTS more)
+        (omega (arith, long, ap (λ k. tick * k) next, mul-suc tick (p - WIDE_MOMENTS)))
   ]
 ]
 
 -- all places are in their tick
 within_room : (tick p : ℕ) → LEAST_TICK ≤ tick → p ≤ MOST_ENTRIES → within_tick tick p < 1000 * tick
-within_room tick p long few = elim (cases_lt p 100) [
+within_room tick p long few = elim (cases_lt p WIDE_MOMENTS) [
   | inl first ↦
       let below : p ≤ 99 = omega (arith, first) in
-      rw (lt-ltb p 100 first) (omega (arith, long, mul-le-mul_left tick below))
+      rw (lt-ltb p WIDE_MOMENTS first) (omega (arith, long, mul-le-mul_left tick below))
   | inr past ↦
-      let below : p - 100 ≤ 65436 = omega (arith, few) in
-      rw (le-ltb p 100 past) (omega (arith, long, mul-le-mul_left tick below))
+      let below : p - WIDE_MOMENTS ≤ 65436 = omega (arith, few) in
+      rw (le-ltb p WIDE_MOMENTS past) (omega (arith, long, mul-le-mul_left tick below))
 ]
 
 -- the next instant comes after this one, if time does not go back
-next_rises : (tick : ℕ) → LEAST_TICK ≤ tick → (instant : Instant) (now : ℕ) → instant.now ≤ now → instant.place ≤ MOST_ENTRIES
+pub next_rises : (tick : ℕ) → LEAST_TICK ≤ tick → (instant : Instant) (now : ℕ) → instant.now ≤ now → instant.place ≤ MOST_ENTRIES
     → time_at tick instant < time_at tick (next_instant instant now)
 next_rises tick long instant now forward few = elim (cases_eq now instant.now) [
   | inl same ↦

@@ -1,10 +1,11 @@
 -- The instants of a history on the axis of a trace. The moments of one time follow one another from the beginning of
--- the tick: the first hundred a thousandth of the tick apart, the others a hundredth of that, so that all moments of
--- a history have room in the tick. The axis has microseconds, and the length of a tick is given in them; times are
+-- the tick: the first `WIDE_MOMENTS` a thousandth of the tick apart, the others a hundredth of that, so that all
+-- moments of a history have room in the tick. The axis has microseconds, and the length of a tick is given in them; times are
 -- nanoseconds.
 use Rattle.std.specs.Prelude.{ℕ, ◌+◌, ◌*◌, ◌-◌, ◌/◌, List, [], ◌∷◌, ◌==◌, if◌then◌else◌, nat_lt}
 use Rattle.apex_moments.specs.Terms.{Entry}
 use Rattle.apex_moments.specs.declared.instants.Instant.{Instant}
+use Rattle.apex_moments.specs.declared.instants.TheConstants.{WIDE_MOMENTS}
 
 -- the instant of the moment before any entry
 abbrev pub opening_instant : Instant
@@ -28,7 +29,8 @@ instant_after done = instant_from opening_instant done
 -- the time from the beginning of a tick of this length to a place in it
 abbrev pub within_tick : ℕ → ℕ → ℕ
 within_tick tick place =
-    if nat_lt place 100 then tick * place else tick * 100 + tick * (place - 100) / 100
+    if nat_lt place WIDE_MOMENTS then tick * place
+    else tick * WIDE_MOMENTS + tick * (place - WIDE_MOMENTS) / 100
 
 -- the time of an instant, for ticks of this length
 abbrev pub time_at : ℕ → Instant → ℕ

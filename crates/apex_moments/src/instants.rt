@@ -6,6 +6,10 @@ ghost use Rattle.apex_moments.specs.Instants.{next_instant, opening_instant, tim
 
 use apex_scales::TickLength;
 
+/// The moments of one time that are a thousandth of a tick apart on an axis. Those behind them are a
+/// hundredth of that apart.
+pub const WIDE_MOMENTS: u64 = 100;
+
 /// The instant of a moment: its time, and its place among the moments of that time.
 #[derive(Clone, Copy)]
 pub struct Instant {
@@ -44,10 +48,10 @@ impl Instant {
         ensures { result ≡ time_at tick self }
     {
         let (tick, place) = (u64::from(tick.microseconds()), u64::from(self.place));
-        let within = if place < 100 {
+        let within = if place < WIDE_MOMENTS {
             tick * place
         } else {
-            tick * 100 + tick * (place - 100) / 100
+            tick * WIDE_MOMENTS + tick * (place - WIDE_MOMENTS) / 100
         };
         1_000 * tick * self.now + within
     }

@@ -1,7 +1,7 @@
 -- The times of a dump rise.
 use Rattle.std.proofs.Common.{◌≡◌, ◌∙◌, ℕ, ◌+◌, ◌<◌, ◌≤◌, List, [], ◌∷◌, ◌++◌, inl, inr, ap, arith, length, length-append, refl, subst, sym}
 use Rattle.std.proofs.Math.Seq.{take-length}
-use Rattle.std.proofs.lemmas.Bool.{cases_eq, cases_lt, eq-eqb, le-ltb, lt-ltb, ne_eqb}
+use Rattle.std.proofs.lemmas.Bool.{cases_lt}
 use Rattle.std.proofs.lemmas.List.{take-append-le}
 use Rattle.std.specs.Prelude.{take}
 use Rattle.apex_types.specs.declared.entries.Entry.{Entry}
@@ -13,37 +13,19 @@ use Rattle.apex_laws.proofs.Runs.{accept-full, accept-room}
 use Rattle.apex_laws.proofs.Sound.{IsSound, forward_after, sound_accept, sound_opening, sound_run}
 use Rattle.apex_waves.specs.Dumps.{end_time}
 use Rattle.apex_moments.specs.Instants.{instant_after, next_instant}
-use Rattle.apex_waves.specs.Instants.{units, within_tick}
+use Rattle.apex_waves.specs.Instants.{units}
 use Rattle.apex_waves.specs.Laws.{TimesRise, after}
 use Rattle.apex_moments.specs.declared.instants.Instant.{Instant}
+use Rattle.apex_scales.specs.declared.ticks.TheConstants.{LEAST_TICK}
 use Rattle.apex_moments.proofs.Pictured.{instant_more, timed_machine}
 use Rattle.apex_moments.proofs.NextInstants.{place_within}
+use Rattle.apex_moments.proofs.Order.{next_rises}
 use Rattle.apex_moments.proofs.Pictured.{event_adds, longer}
 
--- the next place comes after this one
-within_rises : (p : ℕ) → within_tick p < within_tick (p + 1)
-within_rises p = elim (cases_lt (p + 1) 100) [
-  | inl few ↦ rw (lt-ltb p 100 (omega (arith, few)), lt-ltb (p + 1) 100 few) (omega arith)
-  | inr more ↦ elim (cases_lt p 100) [
-    | inl last ↦ rw (lt-ltb p 100 last, le-ltb (p + 1) 100 more) (omega (arith, last, more))
-    | inr past ↦ rw (le-ltb p 100 past, le-ltb (p + 1) 100 more) (omega arith)
-  ]
-]
-
--- all places are in their tick
-within_room : (p : ℕ) → p ≤ MOST_ENTRIES → within_tick p < 100000
-within_room p few = elim (cases_lt p 100) [
-  | inl first ↦ rw (lt-ltb p 100 first) (omega (arith, first))
-  | inr past ↦ rw (le-ltb p 100 past) (omega (arith, few))
-]
-
 -- the next instant comes after this one, if time does not go back
-next_rises : (instant : Instant) (now : ℕ) → instant.now ≤ now → instant.place ≤ MOST_ENTRIES
+next_later : (instant : Instant) (now : ℕ) → instant.now ≤ now → instant.place ≤ MOST_ENTRIES
     → units instant < units (next_instant instant now)
-next_rises instant now forward few = elim (cases_eq now instant.now) [
-  | inl same ↦ rw (eq-eqb now instant.now same) (omega (arith, same, within_rises instant.place))
-  | inr other ↦ rw (ne_eqb now instant.now other) (omega (arith, forward, other, within_room instant.place few))
-]
+next_later instant now forward few = next_rises LEAST_TICK (omega arith) instant now forward few
 
 -- the time after the first k of these entries
 abbrev time_at : List Entry → ℕ → ℕ
@@ -94,7 +76,7 @@ rising_accept table lawful machine sound event rising = elim (cases_lt (length m
       let next : units (instant_after machine.history) < units (instant_after new.history) =
       subst (λ (i : Instant). units (instant_after machine.history) < units i)
       (sym (instant_more table machine new event room refl))
-      (next_rises (instant_after machine.history) new.roster.now (omega (arith, time, forward)) (few_places table lawful machine sound)) in
+      (next_later (instant_after machine.history) new.roster.now (omega (arith, time, forward)) (few_places table lawful machine sound)) in
       subst (λ (m : Machine). AreRising m.history) (sym is) (rising_push machine.history entry rising
       (subst (λ (m : Machine). units (instant_after machine.history) < units (instant_after m.history)) is next))
   | inr full ↦ subst (λ (m : Machine). AreRising m.history) (sym (accept-full table machine event full)) rising
@@ -119,5 +101,5 @@ rise = record {
       let sound = sound_run table lawful events in
       let time = timed_machine table machine sound.replays in
       subst (λ (t : ℕ). t < end_time machine) (sym (time_whole machine.history (length machine.history) refl))
-      (next_rises (instant_after machine.history) machine.roster.now (omega (arith, time)) (few_places table lawful machine sound));
+      (next_later (instant_after machine.history) machine.roster.now (omega (arith, time)) (few_places table lawful machine sound));
 }
