@@ -5,7 +5,7 @@ use Rattle.std.specs.Prelude.{slice_get}
 use Rattle.apex_machine.specs.Deeds.{Objects}
 use Rattle.apex_machine.specs.processes.Roster.{Roster}
 use Rattle.apex_machine.specs.table.Table.{Table}
-use Rattle.apex_traces.specs.Counters.{back_text, change_text, changed_text, count_text, counter_text, front_text, kind_text, kind_word, object_name, same_count, unit_word}
+use Rattle.apex_traces.specs.Counters.{change_text, changed_text, count_text, kind_text, kind_word, object_name, same_count, unit_word}
 use Rattle.apex_moments.specs.Counts.{Counts, count_of, counts_in, counts_of, object_count, owners_in}
 use Rattle.apex_traces.specs.Times.{time_text}
 use Rattle.apex_traces.specs.Trace.{mutexes_text, objects_text}
@@ -21,8 +21,20 @@ seven a b c d e f g =
     ∙ append_assoc (a ++ b ++ c) d (e ++ (f ++ g)) ∙ append_assoc (a ++ b) c (d ++ (e ++ (f ++ g)))
     ∙ append_assoc a b (c ++ (d ++ (e ++ (f ++ g))))
 
--- the count of an object
-counted : (kind : Kind) (name : List ℕ) (time count : ℕ)
+-- what the code puts before the name of an object of a kind, and behind it
+abbrev pub front_text : Kind → List ℕ
+front_text kind = codes ",\"name\":\"" ++ kind_word kind ++ codes " "
+
+abbrev pub back_text : Kind → List ℕ
+back_text kind = codes "\",\"args\":{\"" ++ unit_word kind ++ codes "\":"
+
+abbrev pub counter_text : Kind → List ℕ → ℕ → ℕ → List ℕ
+counter_text kind name time count =
+    codes ",\n{\"ph\":\"C\",\"pid\":3,\"ts\":" ++ time_text time ++ front_text kind
+    ++ json_text name ++ back_text kind ++ decimal count ++ codes "}}"
+
+-- these texts are the count of the object
+pub counted : (kind : Kind) (name : List ℕ) (time count : ℕ)
     → counter_text kind name time count ≡ count_text (kind_word kind) name (unit_word kind) time count
 unfolding count_text
 counted Semaphore name time count =
@@ -41,10 +53,10 @@ counted EventFlag name time count =
 -- a count that is not the one before
 pub count_changed : (table : Table) (time : ℕ) (kind : Kind) (i : ℕ) (before : Option ℕ) (count : ℕ) (text name whole : List ℕ)
     → same_count before count ≡ false → name ≡ object_name table kind i
-    → whole ≡ text ++ counter_text kind name time count
+    → whole ≡ text ++ count_text (kind_word kind) name (unit_word kind) time count
     → whole ≡ text ++ change_text table time kind i before count
 count_changed table time kind i before count text name whole differs named put =
-    rw (differs, ← named) (put ∙ ap (λ l. text ++ l) (counted kind name time count))
+    rw (differs, ← named) put
 
 -- nothing is put if a count is the one before
 pub count_still : (table : Table) (time : ℕ) (kind : Kind) (i before count : ℕ) (text : List ℕ) → before ≡ count

@@ -41,25 +41,6 @@ count_text kind name unit time count = texts (
     ∷ json_text name ∷ codes "\",\"args\":{\"" ∷ unit ∷ codes "\":" ∷ decimal count ∷ codes "}}"
     ∷ [])
 
--- what comes before the name of an object of a kind, and behind it
-abbrev pub front_text : Kind → List ℕ
-front_text Semaphore = codes ",\"name\":\"semaphore "
-front_text Buffer = codes ",\"name\":\"buffer "
-front_text Blackboard = codes ",\"name\":\"blackboard "
-front_text EventFlag = codes ",\"name\":\"event "
-
-abbrev pub back_text : Kind → List ℕ
-back_text Semaphore = codes "\",\"args\":{\"value\":"
-back_text Buffer = codes "\",\"args\":{\"messages\":"
-back_text Blackboard = codes "\",\"args\":{\"messages\":"
-back_text EventFlag = codes "\",\"args\":{\"up\":"
-
--- the same, by the texts before the name and behind it
-abbrev pub counter_text : Kind → List ℕ → ℕ → ℕ → List ℕ
-counter_text kind name time count =
-    codes ",\n{\"ph\":\"C\",\"pid\":3,\"ts\":" ++ time_text time ++ front_text kind
-    ++ json_text name ++ back_text kind ++ decimal count ++ codes "}}"
-
 -- a count is the one before, if there was one
 abbrev pub same_count : Option ℕ → ℕ → Bool
 same_count None count = false

@@ -2,7 +2,7 @@
 ghost use Rattle.std.specs.Prelude.{◌≡◌, ◌+◌, ◌*◌, ◌≤◌, ◌++◌, [], OnOk, length};
 ghost use Rattle.arrayvec.specs.ArrayVec.{array_vec_len};
 ghost use Rattle.apex_types.specs.declared.limits.TheConstants.{MOST_NAME, MOST_OBJECTS};
-ghost use Rattle.apex_traces.specs.Counters.{count_at, counter_text, counters_text, kind_text, object_name};
+ghost use Rattle.apex_traces.specs.Counters.{count_at, count_text, counters_text, kind_text, kind_word, object_name, unit_word};
 ghost use Rattle.apex_moments.specs.Counts.{counts_in, no_counts, object_count};
 ghost use Rattle.apex_traces.specs.declared.pieces.TheConstants.{COUNTER, PIECE_ROOM};
 
@@ -24,7 +24,8 @@ fn add_count(piece: &mut Piece, time: u64, stamp: &Timed, kind: Kind, name: &[u8
     requires stamp { stamp.now ≡ time }
     requires name { length name.now ≤ MOST_NAME }
     requires room { array_vec_len piece.old + COUNTER ≤ PIECE_ROOM }
-    ensures text { piece.new.items ≡ piece.old.items ++ counter_text kind name.now time count }
+    ensures text { piece.new.items ≡ piece.old.items
+        ++ count_text (kind_word kind) name.now (unit_word kind) time count }
     ensures short { array_vec_len piece.new ≤ array_vec_len piece.old + COUNTER }
 {
     add_text(piece, *b",\n{\"ph\":\"C\",\"pid\":3");
@@ -51,7 +52,8 @@ fn add_changed(
     requires stamp { stamp.now ≡ time }
     requires room { array_vec_len piece.old + COUNTER ≤ PIECE_ROOM }
     ensures text { piece.new.items ≡ piece.old.items
-        ++ counter_text kind (object_name table.now kind place) time count }
+        ++ count_text (kind_word kind) (object_name table.now kind place) (unit_word kind)
+        time count }
     ensures short { array_vec_len piece.new ≤ array_vec_len piece.old + COUNTER }
 {
     add_count(

@@ -1,7 +1,7 @@
 //! The texts around the name of an object in its counter.
-ghost use Rattle.std.specs.Prelude.{◌≡◌, ◌≤◌, length};
+ghost use Rattle.std.specs.Prelude.{◌≡◌, ◌≤◌, ◌++◌, codes, length};
 ghost use Rattle.apex_types.specs.declared.limits.TheConstants.{MOST_NAME};
-ghost use Rattle.apex_traces.specs.Counters.{back_text, front_text, object_name};
+ghost use Rattle.apex_traces.specs.Counters.{kind_word, object_name, unit_word};
 
 use apex_configs::Table;
 use apex_moments::Kind;
@@ -23,7 +23,7 @@ pub(crate) fn object_name(kind: Kind, table: &Table, place: u8) -> &[u8]
 
 /// What comes before the name in a counter of a kind.
 pub(crate) fn front(kind: Kind) -> &'static str
-    ensures value { result.now ≡ front_text kind }
+    ensures value { result.now ≡ codes ",\"name\":\"" ++ kind_word kind ++ codes " " }
     ensures short { length result.now ≤ 20 }
 {
     match kind {
@@ -36,7 +36,8 @@ pub(crate) fn front(kind: Kind) -> &'static str
 
 /// What comes behind the name in a counter of a kind.
 pub(crate) fn back(kind: Kind) -> &'static str
-    ensures value { result.now ≡ back_text kind }
+    ensures value { result.now
+        ≡ codes "\",\"args\":{\"" ++ unit_word kind ++ codes "\":" }
     ensures short { length result.now ≤ 22 }
 {
     match kind {

@@ -1,8 +1,8 @@
 -- The seven parts are those of the text.
 use Rattle.std.proofs.Common.{◌∙◌, ◌++◌, ap, append_assoc, codes, decimal}
 use Rattle.apex_json.specs.Strings.{json_text}
-use Rattle.apex_traces.specs.Counters.{back_text, front_text}
 use Rattle.apex_traces.specs.Times.{time_text, time_back}
+use Rattle.apex_traces.proofs.Counted.{back_text, counted, front_text}
 use Rattle.apex_traces.proofs.SlicesWhole.{six_behind}
 use Rattle.apex_traces.proofs.counters.add_count.Goals as goal
 
@@ -23,3 +23,4 @@ returns-clause-text c =
     (rw c.back.ensures.value at c.add-2.ensures.text) c.add_number.ensures.text)
     ∙ ap (λ l. (text ++ (l ++ front ++ name ++ back ++ count)) ++ end) (append_assoc head ts time)
     ∙ append_assoc text (head ++ ts ++ time ++ front ++ name ++ back ++ count) end
+    ∙ ap (λ l. text ++ l) (counted c.args.kind c.args.name.now c.args.time c.args.count)
