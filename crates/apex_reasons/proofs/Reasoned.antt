@@ -1,6 +1,6 @@
 -- A reason is that of the machine's deed.
 use Rattle.std.proofs.Common.{◌≡◌, ◌+◌, ◌-◌, ◌≤◌, ◌<◌, ◌==◌, ℕ, Bool, true, false, cond, List, length, Option, None, Some, ap, inl, inr, refl, subst, arith}
-use Rattle.std.specs.Prelude.{nat_lt}
+use Rattle.std.specs.Prelude.{nat_lt, not}
 use Rattle.std.proofs.lemmas.Bool.{cases_Bool, cond_both, eq-eqb, eqb-true, ltb-false, ltb-true}
 use Rattle.std.proofs.Math.Nat.{min-le_left}
 use Rattle.apex_types.proofs.Places.{get_or-map_places}
@@ -114,10 +114,10 @@ module _ (table : Table) where
   goes goal now n near some =
       cond_both {A = Rule} (nat_lt goal (now + n)) TickStops TickGoesWhole (λ rule. Explains rule (Advanced n (goal - now)))
       (λ below. stops (ltb-true goal (now + n) below)) (λ past. eq-eqb (goal - now) n (omega (arith, near, ltb-false goal (now + n) past))) where
-        stops : goal < now + n → ((goal - now) == n) ≡ false
+        stops : goal < now + n → not ((goal - now) == n) ≡ true
         stops below = elim (cases_Bool ((goal - now) == n)) [
           | inl same ↦ absurd (omega (arith, some, below, eqb-true (goal - now) n same))
-          | inr differs ↦ differs
+          | inr differs ↦ ap not differs
         ]
 
   -- the reason of an event is that of its deed

@@ -1,5 +1,5 @@
 -- The replies for which a rule stands (this profile).
-use Rattle.std.specs.Prelude.{◌≡◌, Bool, true, false, ◌==◌, Option, None, Some}
+use Rattle.std.specs.Prelude.{◌≡◌, Bool, true, false, not, ◌==◌, Option, None, Some}
 use Rattle.apex_types.specs.declared.entries.Reply.TheVariants.{Code, Value, Status, Message, Blocked, Gone, Idle, Begun, Done, Lost, Advanced}
 use Rattle.apex_types.specs.declared.entries.ReturnCode.TheVariants.{NotAvailable}
 use Rattle.apex_machine.specs.services.Satisfied.{is_no_error}
@@ -29,6 +29,11 @@ abbrev pub went_whole : Reply → Bool
 went_whole (Advanced asked went) = went == asked
 went_whole _ = false
 
+-- the tick did not go as far as it was asked to
+abbrev pub stopped_short : Reply → Bool
+stopped_short (Advanced asked went) = not (went == asked)
+stopped_short _ = false
+
 -- the reply is one for which the rule stands
 abbrev pub Explains : Rule → Reply → Type 0
 Explains (Refused guard) reply = reply ≡ Code (code_of guard)
@@ -40,7 +45,7 @@ Explains WorkWasBroken reply = reply ≡ Lost
 Explains ModeIsIdle reply = reply ≡ Idle
 Explains NoInitStepIsDue reply = reply ≡ Idle
 Explains NobodyIsEligible reply = reply ≡ Idle
-Explains TickStops reply = went_whole reply ≡ false
+Explains TickStops reply = stopped_short reply ≡ true
 Explains TickGoesWhole reply = went_whole reply ≡ true
 
 -- the rule of a row: its first guard that holds, else what its service does
