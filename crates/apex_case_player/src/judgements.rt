@@ -64,8 +64,15 @@ impl<'a> Case<'a> {
             Kind::Example(_) => {
                 report.compare(output.get(..self.devices.room).unwrap_or(output), got)
             }
-            Kind::Reading { .. } => {}
+            Kind::Reading { .. } => self.compare_reading(report, got),
         }
+    }
+
+    /// Compares the number of lines of a reading's output: the one of its turn, or none if the
+    /// program refuses its table.
+    fn compare_reading(&self, report: &mut Report, got: &str) {
+        let wanted = u64::from(self.expected.status == 0);
+        report.compare_numbers("lines", wanted, got.lines().count() as u64);
     }
 
     /// Judges the outcome of the case as it is. The lines of a replay are legal: `check` makes them
