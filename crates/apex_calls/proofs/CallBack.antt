@@ -1,6 +1,6 @@
--- A call is that of its own parts, and the parts of a service's call are the service and its arguments.
+-- A call is that of its own parts.
 use Rattle.std.proofs.Common.{◌≡◌, ℕ, refl}
-use Rattle.apex_calls.specs.Terms.{Arguments, BlackboardService, BufferService, Call, EventFlagService, MutexService, ProcessService, SemaphoreService, Service}
+use Rattle.apex_calls.specs.Terms.{BlackboardService, BufferService, Call, EventFlagService, MutexService, ProcessService, SemaphoreService}
 use Rattle.apex_types.specs.declared.calls.BlackboardService.TheVariants.{Display}
 use Rattle.apex_types.specs.declared.calls.BufferService.TheVariants.{Send}
 use Rattle.apex_types.specs.declared.calls.Call.TheVariants.{Partition, Process, Caller, Time, Semaphore, Buffer, Blackboard, EventFlag, Mutex}
@@ -12,7 +12,6 @@ use Rattle.apex_types.specs.declared.calls.PartitionCall.TheVariants.{GetPartiti
 use Rattle.apex_types.specs.declared.calls.ProcessService.TheVariants.{Start}
 use Rattle.apex_types.specs.declared.calls.SemaphoreService.TheVariants.{Signal}
 use Rattle.apex_types.specs.declared.calls.TimeCall.TheVariants.{GetTime}
-use Rattle.apex_calls.specs.declared.catalogue.Service.TheVariants.{SetPartitionMode}
 use Rattle.apex_calls.specs.Parts.{call_of, parts_of}
 
 -- the call of the parts
@@ -54,7 +53,3 @@ call_back (Partition GetPartitionStatus) = refl
 call_back (Caller StopSelf) = refl
 call_back (Time GetTime) = refl
 call_back _ = refl
-
-pub service_of_call : (s : Service) (a : Arguments) → (parts_of (call_of s a)).0 ≡ s
-service_of_call SetPartitionMode a = refl
-service_of_call _ a = refl

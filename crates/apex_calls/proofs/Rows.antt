@@ -1,15 +1,10 @@
 -- Each row is that of its service.
-use Rattle.std.proofs.Common.{◌≡◌, ℕ, List, [], ◌∷◌, map, Bool, true, false, cond, Option, Some, None, IfSome, option_map, refl}
+use Rattle.std.proofs.Common.{ℕ, List, [], ◌∷◌, map, Bool, true, false, cond, Option, Some, None, IfSome, option_map, refl}
 use Rattle.std.specs.List.{AllByRecursion}
 use Rattle.std.specs.Str.{bytes_eq}
 use Rattle.apex_calls.specs.Terms.{Service}
 use Rattle.apex_calls.specs.Catalogue.{Row, all_services, rows, row_in, row_of, IsRow}
 use Rattle.apex_calls.specs.declared.catalogue.Service.TheVariants.{SetPartitionMode}
-
--- the row of each service is found by its word
-pub found_by_word : (s : Service) → row_in rows (row_of s).word ≡ Some (row_of s)
-found_by_word SetPartitionMode = refl
-found_by_word _ = refl
 
 pub own_row : (s : Service) → IsRow (row_of s)
 own_row SetPartitionMode = record { own = refl }

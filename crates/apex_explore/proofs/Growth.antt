@@ -160,7 +160,3 @@ AllAre-laid P states origins key origin states' origins' all new (inr (e, f)) = 
     push [] all (suc place) k is = cc
     push (x ∷ xs) all zero k is = all 0 k is
     push (x ∷ xs) all (suc place) k is = push xs (λ i n at. all (suc i) n at) place k is
-
-pub AllAre-one : {K : Type 0} (P : K → Type 0) (key : K) → P key → AllAre P (key ∷ [])
-AllAre-one P key holds zero k is = subst P (same_Some key k is) holds
-AllAre-one P key holds (suc place) k is = cc

@@ -1,20 +1,12 @@
 -- Whether a path hits is seen choice by choice.
-use Rattle.std.proofs.Common.{◌≡◌, ℕ, ◌+◌, ◌<◌, ◌≤◌, Bool, true, false, List, [], ◌∷◌, ◌++◌, length, drop, get_or, refl, sym, ap, ◌∙◌, subst, inl, inr, arith, add-one}
-use Rattle.std.specs.Prelude.{◌↔◌, IsTrue}
-use Rattle.std.proofs.Math.ListN.{drop_of_length-le}
+use Rattle.std.proofs.Common.{◌≡◌, ℕ, ◌+◌, ◌<◌, List, [], ◌∷◌, ◌++◌, length, drop, get_or, sym, ap, ◌∙◌, subst, add-one}
+use Rattle.std.specs.Prelude.{◌↔◌}
 use Rattle.std.proofs.Math.Seq.{drop-cons}
-use Rattle.std.proofs.lemmas.Bool.{cases_lt}
 use Rattle.apex_explore.specs.Paths.{IsHit}
-use Rattle.apex_explore.specs.Systems.{Step, refuses, goes, hits}
+use Rattle.apex_explore.specs.Systems.{Step, goes, hits}
 
 same_goes : {K : Type 0} (m n : K) (taken : Step K) → taken ≡ goes m → taken ≡ goes n → n ≡ m
 same_goes m n taken e f = let same : goes n ≡ goes m = sym f ∙ e in cc
-
-not_goes : {K : Type 0} (n : K) (taken : Step K) → taken ≡ refuses → taken ≡ goes n → ⊥
-not_goes n taken e f = let same : refuses ≡ goes n = sym e ∙ f in cc
-
-not_hits : {K : Type 0} (taken : Step K) → taken ≡ refuses → taken ≡ hits → ⊥
-not_hits taken e f = let same : refuses ≡ hits = sym e ∙ f in cc
 
 goes_not_hits : {K : Type 0} (n : K) (taken : Step K) → taken ≡ goes n → taken ≡ hits → ⊥
 goes_not_hits n taken e f = let same : goes n ≡ hits = sym e ∙ f in cc
@@ -34,10 +26,6 @@ module _ {K : Type 0} (step : K → ℕ → Step K) where
       let e : choice ≡ c = cc in
       let f : others ≡ cs ++ end ∷ [] = cc in
       on m (rw e goes_is) (cs, end, n, f, rest, hit)
-
-  no_choice : (k : K) → IsHit step k [] → ⊥
-  no_choice k ([], end, n, split, leads, hit) = cc
-  no_choice k (c ∷ cs, end, n, split, leads, hit) = cc
 
   on_from : (k m : K) (choice : ℕ) (others : List ℕ) → step k choice ≡ goes m → IsHit step m others → IsHit step k (choice ∷ others)
   on_from k m choice others goes_is (front, end, n, split, leads, hit) =
@@ -71,37 +59,4 @@ module _ {K : Type 0} (step : K → ℕ → Step K) where
     IsOn-goes m below goes_is = (
       λ hit. rest_from k m choice (drop (place + 1) path) goes_is (here below hit),
       λ rest. back below (on_from k m choice (drop (place + 1) path) goes_is rest),
-    )
-
-    pub hit_refused : (result : Bool) → result ≡ false → place < length path → step k choice ≡ refuses → IsTrue result ↔ IsHit step k₀ path
-    hit_refused result is below refused = (
-      λ yes. let no : true ≡ false = sym yes ∙ is in cc,
-      λ hit. elim (first_of k choice (drop (place + 1) path) (here below hit)) [
-        | on m goes_is rest ↦ absurd (not_goes m (step k choice) refused goes_is)
-        | last hit_is none ↦ absurd (not_hits (step k choice) refused hit_is)
-      ],
-    )
-
-    pub hit_struck : (result : Bool) → (IsTrue result ↔ (place + 1 ≡ length path)) → place < length path → step k choice ≡ hits → IsTrue result ↔ IsHit step k₀ path
-    hit_struck result is below hit_is = (
-      λ yes.
-          let all : length path ≤ place + 1 = omega (arith, is.0 yes) in
-          back below (subst (λ others. IsHit step k (choice ∷ others)) (sym (drop_of_length-le path all)) ([], choice, k, refl, refl, hit_is)),
-      λ hit. elim (first_of k choice (drop (place + 1) path) (here below hit)) [
-        | on m goes_is rest ↦ absurd (goes_not_hits m (step k choice) goes_is hit_is)
-        | last also none ↦ is.1 (nothing_left path place below none)
-      ],
-    )
-      where
-        nothing_left : (path : List ℕ) (place : ℕ) → place < length path → drop (place + 1) path ≡ [] → place + 1 ≡ length path
-        nothing_left path place below none =
-            elim (cases_lt (place + 1) (length path)) [
-              | inl more ↦ let some = drop-cons path (place + 1) 0 more in let e = sym none ∙ some in cc
-              | inr all ↦ omega arith
-            ]
-
-    pub hit_past : (result : Bool) → result ≡ false → length path ≤ place → IsTrue result ↔ IsHit step k₀ path
-    hit_past result is past = (
-      λ yes. let no : true ≡ false = sym yes ∙ is in cc,
-      λ hit. absurd (no_choice k (subst (λ others. IsHit step k others) (drop_of_length-le path past) (so_far.0 hit))),
     )

@@ -2,17 +2,15 @@
 use Rattle.std.proofs.Common.{◌≡◌, ℕ, zero, suc, ◌+◌, ◌<◌, ◌≤◌, Bool, true, false, List, [], ◌∷◌, ◌++◌, length, length-append, refl, sym, ap, ◌∙◌, subst, inl, inr, arith}
 use Rattle.std.proofs.lemmas.Option.{slice_get_within}
 use Rattle.apex_explore.specs.Levels.{IsAt, IsChild, IsLevel, IsTraced, Keeps, first_front}
-use Rattle.apex_states.specs.Lists.{AllAre}
 use Rattle.apex_explore.specs.Paths.{Leads, NoHitWithin, ReachesWithin}
 use Rattle.apex_explore.specs.Searches.{AreSearched, IsSearched, IsSearchedBefore, Weakens}
 use Rattle.apex_states.specs.States.{IsKept, Reached}
 use Rattle.apex_explore.specs.Systems.{Step, goes, hits}
 use Rattle.apex_explore.specs.declared.searches.Search.{Search}
 use Rattle.apex_states.specs.declared.states.Origin.{Origin}
-use Rattle.apex_explore.proofs.Growth.{AllAre-one}
 use Rattle.apex_explore.proofs.Leading.{Ends-from_Leads, Leads-push}
 use Rattle.apex_explore.proofs.Levels.{IsLevel-start, nothing_within}
-use Rattle.apex_explore.proofs.Keeping.{kept_first, kept_width}
+use Rattle.apex_explore.proofs.Keeping.{kept_first}
 
 -- A step that keeps to the states doesn't hit.
 hits_nothing : {K : Type 0} (states : List K) (taken : Step K) → Keeps states taken → taken ≡ hits → ⊥
@@ -139,19 +137,6 @@ searched_first step first old origin false new states origins (fresh, full, same
       ap (λ (s : Reached). s.states) same ∙ states,
       ap (λ (s : Reached). s.room) same ∙ (sym full ∙ ap length states),
     )
-
--- The first state is the only one, if any, and as wide as before.
-pub over_first : (P : List ℕ → Type 0) (first : List ℕ) (old : Reached) (origin : Origin) (kept : Bool) (new : Reached)
-    → old.states ≡ [] → old.origins ≡ []
-    → IsKept old first origin kept new
-    → P first
-    → (new.width ≡ old.width) × AllAre P new.states
-over_first P first old origin true new states origins is holds =
-    let alone = kept_first old first origin new states origins is in
-    ((kept_width old first origin new is).0, rw alone.0 (AllAre-one P first holds))
-over_first P first old origin false new states origins (fresh, full, same) is =
-    let none : new.states ≡ [] = ap (λ (s : Reached). s.states) same ∙ states in
-    (ap (λ (s : Reached). s.width) same, rw none (λ place k there. cc))
 
 -- A path that led from a state to another one leads there.
 pub Leads-weaker : {K : Type 0} (before step : K → ℕ → Step K) → Weakens before step → (k : K) (path : List ℕ) (n : K) → Leads before k path n → Leads step k path n

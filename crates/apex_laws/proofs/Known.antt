@@ -4,13 +4,11 @@ use Rattle.std.proofs.lemmas.Bool.{cases_lt}
 use Rattle.std.proofs.lemmas.List.{get_or_past}
 use Rattle.std.proofs.lemmas.Option.{none-some, same_Some, slice_get_within, get_or_from_slice_get}
 use Rattle.apex_laws.specs.Terms.{Call, Entry, Origin}
-use Rattle.apex_types.specs.declared.calls.Call.TheVariants.{Process, Semaphore, Buffer, Blackboard, EventFlag, Mutex}
 use Rattle.apex_types.specs.declared.calls.Origin.TheVariants.{Init, Script}
 use Rattle.apex_machine.specs.table.Table.{Table, ProcessConfig, Step, IsLawful, IsLawfulStep, IsKnown, no_step, step_at, call_in, no_process, process_config}
-use Rattle.apex_machine.specs.Deeds.{Objects}
 use Rattle.apex_machine.specs.Machine.{objects_after}
 use Rattle.apex_types.proofs.Places.{length-map_places}
-use Rattle.apex_laws.specs.Premises.{AreOf, IsKnownTo}
+use Rattle.apex_laws.specs.Premises.{AreOf}
 
 -- the objects that a history gives are those of the table
 pub objects_are : (table : Table) (history : List Entry) → AreOf table (objects_after table history)
@@ -22,17 +20,6 @@ objects_are table history = record {
   event_flags = length-map_places _ 0 table.event_flags;
   mutexes = length-map_places _ 0 table.mutexes;
 }
-
--- the thing that a call names is one of the objects
-pub known_to : (table : Table) (objects : Objects) (call : Call) → AreOf table objects → IsKnown table call
-    → IsKnownTo objects call
-known_to table objects (Process call) all h = rw all.processes h
-known_to table objects (Semaphore call) all h = rw all.semaphores h
-known_to table objects (Buffer call) all h = rw all.buffers h
-known_to table objects (Blackboard call) all h = rw all.blackboards h
-known_to table objects (EventFlag call) all h = rw all.event_flags h
-known_to table objects (Mutex call) all h = rw all.mutexes h
-known_to table objects _ all h = tt
 
 -- the call of a step of a list of lawful steps
 pub known_step : (table : Table) (origin : ℕ → Origin) (steps : List Step) (k : ℕ) (call : Call)

@@ -90,8 +90,3 @@ module _ (counts : List ℕ) (links : Links) (p : ℕ) (counted : AreCounted cou
 
     pub outside_counted : ((m : ℕ) → m < QUEUE_LISTS → l ≢ READY_LISTS + m) → AreCounted counts (removed links p)
     outside_counted none = other_counted (λ m inside. elsewhere (READY_LISTS + m) (λ f. none m inside (sym f)))
-
-    -- the list of the process has a count of one at least
-    pub counted_here : (value : ℕ) → length counts ≡ QUEUE_LISTS → READY_LISTS ≤ l → l < ALL_LISTS → value ≡ get_or counts (l - READY_LISTS) value → 0 < value
-    counted_here value long from to read =
-        omega (arith, count_is counts links l value counted long from to read, length_without p (list_at links l) only.here)
