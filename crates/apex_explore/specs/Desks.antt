@@ -9,7 +9,8 @@ use Rattle.apex_states.specs.Batches.{Copies}
 use Rattle.apex_states.specs.Lists.{AllAre}
 
 -- the desk is for states of this many words
-pub record IsDesk {W : Type 0} (word_count : ℕ) (is_workspace : W → Type 0) (desk : Desk W) : Type 0 where
+pub record IsDesk {W : Type 0} (word_count : ℕ) (is_workspace : W → Type 0) (desk : Desk W)
+    : Type 0 where
   pub workspace : is_workspace desk.workspace
   pub next : length desk.next.items ≡ word_count
   pub width : desk.batch.width ≡ word_count

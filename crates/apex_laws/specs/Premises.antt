@@ -32,8 +32,8 @@ pub record AreOf (table : Table) (objects : Objects) : Type 0 where
   pub event_flags : length objects.event_flags ≡ length table.event_flags
   pub mutexes : length objects.mutexes ≡ length table.mutexes
 
--- the stamps that one event gives at the most: as many as the deadlines tell notices, two for each process, and one for
--- each due
+-- the stamps that one event gives at the most: as many as the deadlines tell notices, two for each
+-- process, and one for each due
 abbrev pub most_given : ℕ
 most_given = 3 * MOST_PROCESSES
 
