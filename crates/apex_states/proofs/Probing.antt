@@ -104,10 +104,6 @@ pub slot_below : (size home steps slot : ℕ) (k : List ℕ) → 0 < size → ho
 slot_below size home steps slot k positive home_is short slot_is =
     rw (slot_is, home_is) (after_below size (home_of size k) steps (home_below size k positive) short)
 
-pub open_below : (cells : List (Option ℕ)) (k : List ℕ) (cell : ℕ) → IsOpen cells k cell → cell < length cells
-open_below cells k cell opened =
-    rw (opened.is) (after_below (length cells) (home_of (length cells) k) opened.steps (home_below (length cells) k (omega (arith, opened.short))) opened.short)
-
 -- What the index keeps.
 
 pub IsIndexed-start : (n : ℕ) → IsIndexed (replicate n None) []

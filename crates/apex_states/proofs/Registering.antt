@@ -1,17 +1,15 @@
 -- Rows, each once, to which one is added.
-use Rattle.std.proofs.Common.{◌≡◌, ◌≢◌, ℕ, zero, suc, ◌+◌, ◌^◌, ◌<◌, ◌≤◌, List, [], ◌∷◌, ◌++◌, length, length-append, take, Option, Some, refl, sym, ap, ◌∙◌, subst, arith, inl, inr, get_or}
+use Rattle.std.proofs.Common.{◌≡◌, ◌≢◌, ℕ, zero, suc, ◌+◌, ◌^◌, ◌<◌, ◌≤◌, List, [], ◌∷◌, ◌++◌, length, length-append, take, Option, Some, sym, ap, ◌∙◌, subst, arith, inl, inr, get_or}
 use Rattle.std.proofs.lemmas.List.{length-map, length-take-le, take_all}
 use Rattle.std.proofs.lemmas.Option.{slice_get-get_or, slice_get_within}
 use Rattle.std.specs.List.{slice_get, slice_set, AllPairs}
 use Rattle.std.specs.Vec.{vec_capacity}
 use Rattle.apex_states.specs.Index.{cells_of, place_in, IsIndexed, IsKnown, IsStart, IsVacant}
 use Rattle.apex_states.specs.declared.index.Index.{Index}
-use Rattle.apex_states.specs.Lists.{IsFront}
 use Rattle.apex_states.specs.Registers.{AreApart, IsEntered, IsGrown, IsRegistered}
 use Rattle.apex_states.specs.Rows.{Packed}
 use Rattle.apex_states.specs.declared.registers.Entered.{Entered}
 use Rattle.apex_states.specs.declared.registers.Entered.TheVariants.{Known, New, Full}
-use Rattle.apex_states.proofs.Fronts.{IsFront-push, IsFront-refl}
 use Rattle.apex_states.proofs.Probing.{last_or_before, length_set, IsIndexed-enter, IsIndexed-start, IsOpen-vacant}
 
 -- a new row is apart from the others
@@ -86,33 +84,6 @@ IsRegistered-enter rows cells memory k slot rows' cells' memory' old vacant room
     within = omega (arith, length-append rows.rows (k ∷ []));
     few = old.few;
   }
-
--- What a row that was entered leaves.
-
-get_push : (rows : List (List ℕ)) (k : List ℕ) → slice_get (rows ++ k ∷ []) (length rows) ≡ Some k
-get_push [] k = refl
-get_push (row ∷ rows) k = get_push rows k
-
--- what was there is there still
-pub record IsKept (old new : Packed) : Type 0 where
-  pub front : IsFront old.rows new.rows
-  pub width : new.width ≡ old.width
-  pub room : new.room ≡ old.room
-  pub apart : AreApart new.rows
-
-IsKept-same : (old new : Packed) → AreApart old.rows → new ≡ old → IsKept old new
-IsKept-same old new apart same = rw same (record { front = IsFront-refl old.rows; width = refl; room = refl; apart = apart })
-
-pub entered_kept : (old : Packed) (k : List ℕ) (entered : Entered) (new : Packed) → AreApart old.rows → IsEntered old k entered new → IsKept old new
-entered_kept old k (Known number) new apart is = IsKept-same old new apart is.1
-entered_kept old k (New number) new apart is = rw is.3 (record { front = IsFront-push old.rows k; width = refl; room = refl; apart = AreApart-push old.rows k apart is.0 })
-entered_kept old k Full new apart is = IsKept-same old new apart is.2
-
-pub known_there : (old : Packed) (k : List ℕ) (number : ℕ) (new : Packed) → IsEntered old k (Known number) new → slice_get new.rows number ≡ Some k
-known_there old k number new is = rw is.1 is.0
-
-pub new_there : (old : Packed) (k : List ℕ) (number : ℕ) (new : Packed) → IsEntered old k (New number) new → slice_get new.rows number ≡ Some k
-new_there old k number new is = rw (is.3, is.1) (get_push old.rows k)
 
 -- The rows entered one after the other.
 

@@ -78,19 +78,6 @@ states_apart left right rows exact exact' valid apart first second k one other =
 pub stored_apart : (roots : Reached) (left right : Half) → IsStored roots left right → AreApart roots.states → AreApart (states_in left right roots.states)
 stored_apart roots left right stored apart = states_apart left right roots.states stored.left_half.exact stored.right_half.exact stored.valid apart
 
--- the halves of the state at a place
-pub root_here : (roots : Reached) (left right : Half) (place pair : ℕ) → IsStored roots left right → slice_get roots.states place ≡ Some (pair ∷ [])
-    → (front : List ℕ) × (back : List ℕ) × IsNumber left (pair / 2 ^ 32) front × IsNumber right (pair % 2 ^ 32) back
-root_here roots left right place pair stored there =
-    let (state, root) = stored.valid place (pair ∷ []) there in
-    let e : root.pair ≡ pair = sym (same_head pair root.pair root.row_is) in
-    let Front : ℕ → Type 0 = λ n. IsNumber left (n / 2 ^ 32) root.front in
-    let Back : ℕ → Type 0 = λ n. IsNumber right (n % 2 ^ 32) root.back in
-    (root.front, root.back, subst Front e root.front_is, subst Back e root.back_is)
-  where
-    same_head : (a b : ℕ) → a ∷ [] ≡ b ∷ [] → a ≡ b
-    same_head a b same = cc
-
 -- the root of a state whose halves are numbered
 pub IsRoot-numbered : (left right : Half) (pair : ℕ) (front back state : List ℕ) → IsNumber left (pair / 2 ^ 32) front → IsNumber right (pair % 2 ^ 32) back → state ≡ front ++ back → IsRoot left right (pair ∷ []) state
 IsRoot-numbered left right pair front back state front_is back_is whole = record { pair = pair; front = front; back = back; row_is = refl; front_is = front_is; back_is = back_is; whole = whole }
