@@ -1,8 +1,8 @@
 -- The index of the states: a list of cells, each with the place of a state or none.
 use Rattle.std.specs.Prelude.{◌≡◌, ◌≢◌, ℕ, ◌+◌, ◌-◌, ◌*◌, ◌/◌, ◌%◌, ◌^◌, ◌<◌, ◌≤◌, ◌==◌, nat_lt, if◌then◌else◌, bit_xor, zero, suc, get_or, List, [], ◌∷◌, drop, length, map, replicate, slice_get, vec_capacity, Option, Some, None}
 use Rattle.std.specs.List.{fold}
-use Rattle.apex_states.specs.declared.index.Found.{Found}
-use Rattle.apex_states.specs.declared.index.Found.TheVariants.{At, Nowhere}
+use Rattle.apex_states.specs.declared.index.Probe.{Probe}
+use Rattle.apex_states.specs.declared.index.Probe.TheVariants.{At, Nowhere}
 use Rattle.apex_states.specs.declared.index.Index.{Index}
 use Rattle.apex_states.specs.declared.index.Slot.{Slot}
 use Rattle.apex_states.specs.declared.index.TheConstants.{FACTOR}
@@ -108,6 +108,6 @@ module _ (cells : List (Option ℕ)) where
     pub new : IsKnown states k → ⊥
 
   -- the row is at this place, or is none of the rows and has a vacant cell
-  abbrev pub IsFoundAmong : List (List ℕ) → List ℕ → Found → Type 0
+  abbrev pub IsFoundAmong : List (List ℕ) → List ℕ → Probe → Type 0
   IsFoundAmong states k (At place) = slice_get states place ≡ Some k
   IsFoundAmong states k (Nowhere cell) = IsVacant states k cell

@@ -12,7 +12,7 @@ const FACTOR: u64 = 0x9e37_79b9_7f4a_7c15;
 
 /// Where a row is, or which slot is free for it.
 #[derive(Clone, Copy)]
-pub(crate) enum Found {
+pub(crate) enum Probe {
     /// The row is at this place.
     At(usize),
     /// The row isn't there, and this slot is free for it.
@@ -121,7 +121,7 @@ impl Index {
     }
 
     /// Where this row is among the rows, or the slot that is free for it.
-    pub(crate) fn find(&self, rows: &Rows, row: &[u64]) -> Found
+    pub(crate) fn find(&self, rows: &Rows, row: &[u64]) -> Probe
         requires indexed { IsIndexed (cells_of self.now) rows.now.rows }
         requires vacant { length rows.now.rows < length self.now.slots.items }
         requires width { length row.now ≡ rows.now.width }
@@ -132,8 +132,8 @@ impl Index {
         for steps in 0..size {
             let slot = slot_after(size, home, steps);
             match self.slots[slot].place() {
-                None => return Found::Nowhere(slot),
-                Some(place) if are_same(rows.row(place), row) => return Found::At(place),
+                None => return Probe::Nowhere(slot),
+                Some(place) if are_same(rows.row(place), row) => return Probe::At(place),
                 Some(_) => {}
             }
         }

@@ -5,7 +5,7 @@ ghost use Rattle.apex_states.specs.Lists.{IsFront};
 ghost use Rattle.apex_states.specs.Registers.{AreApart, IsEntered, IsGrown};
 ghost use Rattle.apex_states.specs.Rows.{no_rows};
 
-use crate::index::{Found, Index};
+use crate::index::{Index, Probe};
 use crate::rows::Rows;
 use std::alloc::{AllocError, Global};
 use std::marker::Model;
@@ -96,8 +96,8 @@ impl Register {
     {
         self.index.widen(&self.rows);
         let slot = match self.index.find(&self.rows, row) {
-            Found::At(place) => return Entered::Known(place as u32),
-            Found::Nowhere(slot) => slot,
+            Probe::At(place) => return Entered::Known(place as u32),
+            Probe::Nowhere(slot) => slot,
         };
         if self.rows.is_full() {
             return Entered::Full;
