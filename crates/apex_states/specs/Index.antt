@@ -28,8 +28,9 @@ mixed hash word = (bit_xor hash word * FACTOR) % 2 ^ 64
 -- the hash of the four words from this place on
 abbrev pub hashed_four : List ℕ → ℕ → ℕ
 hashed_four words place =
-    mixed (mixed (mixed (get_or words place 0) (get_or words (place + 1) 0)) (get_or words (place + 2) 0))
-    (get_or words (place + 3) 0)
+    let two = mixed (get_or words place 0) (get_or words (place + 1) 0) in
+    let three = mixed two (get_or words (place + 2) 0) in
+    mixed three (get_or words (place + 3) 0)
 
 -- the hash of this many times four words
 abbrev pub hashed : List ℕ → ℕ → ℕ
