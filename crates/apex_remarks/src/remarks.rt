@@ -10,8 +10,9 @@ ghost use Rattle.apex_warnings.specs.Warnings.{warnings};
 
 use apex_configs::Table;
 use apex_faults::{Finding, Location, findings_of, locate};
-use apex_types::{BlackboardId, BufferId, EventId, MutexId, Name, Origin, ProcessId, SemaphoreId};
-use apex_warnings::{Group, StepWarning, Warning, is_among, lint};
+use apex_names::{object_name, process_name};
+use apex_types::Origin;
+use apex_warnings::{StepWarning, Warning, is_among, lint};
 use apex_words::{Key, Part, Place, Section, Subject};
 use std::alloc::{AllocError, Global};
 use std::str;
@@ -107,54 +108,29 @@ fn warning_subject(warning: Warning) -> Subject
     }
 }
 
-/// The name of the object of this kind at this place, counted from 0.
-fn object_name(table: &Table, group: Group, place: u8) -> Option<&Name> {
-    if usize::from(place) >= group.count(table) {
-        return None;
-    }
-    match group {
-        Group::Semaphores => Some(table.semaphore(SemaphoreId::at(place)).name()),
-        Group::Buffers => Some(table.buffer(BufferId::at(place)).name()),
-        Group::Blackboards => Some(table.blackboard(BlackboardId::at(place)).name()),
-        Group::EventFlags => Some(table.event_flag(EventId::at(place)).name()),
-        Group::Mutexes => Some(table.mutex(MutexId::at(place)).name()),
-    }
-}
-
-fn process_name(table: &Table, process: ProcessId) -> Option<&Name> {
-    if process.place() >= table.process_count() {
-        return None;
-    }
-    Some(table.process(process).name())
-}
-
-/// The name of the process that makes the step, if a process makes it.
-fn maker_name(table: &Table, origin: Origin) -> Option<&Name> {
+/// The name of the process that makes the step; no byte if no process makes it.
+fn maker_name(table: &Table, origin: Origin) -> &[u8] {
     match origin {
-        Origin::Init(_) => None,
+        Origin::Init(_) => &[],
         Origin::Script(process, _) => process_name(table, process),
     }
 }
 
-/// The name of the entry that the warning is about, if it is about one.
-fn entry_name(table: &Table, warning: Warning) -> Option<&Name> {
+/// The name of the entry that the warning is about; no byte if it is about none.
+fn entry_name(table: &Table, warning: Warning) -> &[u8] {
     match warning {
         Warning::Process(_, process) => process_name(table, process),
         Warning::Step(_, origin) => maker_name(table, origin),
-        Warning::UnusedObject(group, place) => object_name(table, group, place),
-        Warning::UnusedCore(_) => None,
+        Warning::UnusedObject(group, place) => object_name(table, &group.queue(place)),
+        Warning::UnusedCore(_) => &[],
     }
 }
 
 /// The name of the entry that the warning is about, with a space before it, if it is about one.
 fn name_part(alloc: Global, table: &Table, warning: &Warning) -> Result<String, AllocError> {
-    let bytes = match entry_name(table, *warning) {
-        Some(name) => name.as_bytes(),
-        None => return Ok(String::new(alloc)),
-    };
-    match str::from_utf8(bytes) {
-        Ok(name) => format!(in alloc; " \"{name}\""),
-        Err(_) => Ok(String::new(alloc)),
+    match str::from_utf8(entry_name(table, *warning)) {
+        Ok(name) if !name.is_empty() => format!(in alloc; " \"{name}\""),
+        _ => Ok(String::new(alloc)),
     }
 }
 
