@@ -6,9 +6,7 @@ use crate::shown::{
     first_named, has_empty_word, names_in, other_key, put_name, put_part, put_text, put_value,
     word_at,
 };
-use crate::wanted::{
-    kind_word, put_wanted_at, put_wanted_name, put_wanted_word, section_of, shape_word,
-};
+use crate::wanted::{put_wanted_at, put_wanted_name, put_wanted_word, section_of, shape_word};
 use crate::wordings::Wording;
 use apex_calls::{Kind, Row, Shape, row_of_word};
 use apex_types::{MOST_NAME, MOST_PROCESSES, MOST_PROCESSES_IN_ONE};
@@ -44,9 +42,10 @@ fn put_bad_name(text: &mut Wording, name: &str) {
 
 /// Puts that no entry of this kind has the name, and which one is near to it.
 fn put_unknown_name(text: &mut Wording, tree: &Value, kind: Kind, name: &str) {
-    text.put_between("no ", kind_word(kind), " of the table has the name ");
+    let section = section_of(kind);
+    text.put_between("no ", section.word(), " of the table has the name ");
     put_text(text, name);
-    match names_in(text.alloc(), tree, section_of(kind)) {
+    match names_in(text.alloc(), tree, section) {
         Ok(names) => put_offer(text, name, &names),
         Err(_) => text.refuse(),
     }

@@ -85,18 +85,6 @@ pub fn put_wanted_at(text: &mut Wording, tree: &Value, place: Place, key: Key) {
     }
 }
 
-/// The word of a thing of this kind.
-pub fn kind_word(kind: Kind) -> &'static str {
-    match kind {
-        Kind::Process => "process",
-        Kind::Semaphore => "semaphore",
-        Kind::Buffer => "buffer",
-        Kind::Blackboard => "blackboard",
-        Kind::EventFlag => "event",
-        Kind::Mutex => "mutex",
-    }
-}
-
 /// The section of the things of this kind.
 pub fn section_of(kind: Kind) -> Section {
     match kind {
@@ -112,7 +100,7 @@ pub fn section_of(kind: Kind) -> Section {
 /// Puts the word that is wanted for the shape.
 pub fn put_wanted_word(text: &mut Wording, shape: Shape) {
     match shape {
-        Shape::Entry(kind) => text.put_between("the name of a ", kind_word(kind), " of the table"),
+        Shape::Entry(_) => text.put_between("the name of a ", shape_word(shape), " of the table"),
         Shape::Named(_) => put_wanted_name(text),
         Shape::Number(low, high) => {
             put_range(text, low, high);
@@ -137,7 +125,7 @@ pub fn put_wanted_word(text: &mut Wording, shape: Shape) {
 /// The shape in short, as one of the words that a step has behind its service.
 pub fn shape_word(shape: Shape) -> &'static str {
     match shape {
-        Shape::Entry(kind) => kind_word(kind),
+        Shape::Entry(kind) => section_of(kind).word(),
         Shape::Named(_) => "name",
         Shape::Number(_, _) => "number",
         Shape::Timeout => "timeout",
