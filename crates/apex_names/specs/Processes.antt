@@ -1,6 +1,7 @@
 -- The process that a text names, or else numbers.
-use Rattle.std.specs.Prelude.{ℕ, ◌-◌, Bool, List, Option, None, Some, length, option_map}
+use Rattle.std.specs.Prelude.{ℕ, ◌-◌, Bool, List, Option, length, option_map}
 use Rattle.std.specs.List.{position}
+use Rattle.std.specs.Option.{option_or}
 use Rattle.std.specs.Str.{bytes_eq}
 use Rattle.apex_machine.specs.table.Table.{ProcessConfig, Table}
 use Rattle.apex_types.specs.Numbers.{at_least, at_most, number_of}
@@ -18,11 +19,6 @@ abbrev pub place_of_number : Table → List ℕ → Option ℕ
 place_of_number table text =
     option_map (λ n. n - 1) (at_least 1 (at_most (length table.processes) (number_of text)))
 
--- the first place, or else the second one
-abbrev pub or_else : Option ℕ → Option ℕ → Option ℕ
-or_else None other = other
-or_else (Some place) other = Some place
-
 -- the place of the process that a text names, or else numbers
 abbrev pub place_of : Table → List ℕ → Option ℕ
-place_of table text = or_else (place_of_name table text) (place_of_number table text)
+place_of table text = option_or (place_of_name table text) (place_of_number table text)
