@@ -13,7 +13,8 @@ use Rattle.apex_board.specs.declared.law.View.TheVariants.{Blank, Publishes, Rea
 use Rattle.apex_board.specs.Cells.{Adds, Finds, IsKept, IsPublished, Knows, Sees}
 use Rattle.apex_board.specs.Fronts.{Shows}
 use Rattle.apex_board.proofs.Openings.{opening_shows}
-use Rattle.apex_board.proofs.Prefixes.{prefix_self, prefix_trans}
+use Rattle.apex_board.proofs.Prefixes.{prefix_self}
+use Rattle.apex_receipts.proofs.Prefixes.{prefix_trans}
 
 -- a fact of each pass stays one if one pass's view changes
 each_set : (K : ℕ → View → Type 0) (views : List View) (pass : ℕ) (w : View) → K pass w
