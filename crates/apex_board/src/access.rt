@@ -6,7 +6,7 @@ ghost use Rattle.apex_board.specs.Access.{MayHear, MaySplit, MayTurn};
 ghost use Rattle.apex_board.specs.Cells.{IsKept, told_of};
 ghost use Rattle.apex_board.specs.declared.law.View.TheVariants.{Blank, Spent};
 
-use crate::law::{Cell, Law, Leaving, Mark, View};
+use crate::law::{Cell, CellPass, Law, Leaving, View};
 use crate::steps;
 use atomic_table::Split;
 use crossbeam_utils::rule::Outcome;
@@ -19,7 +19,7 @@ use std::sync::{Arc, Wait};
 #[derive(Drop)]
 pub(crate) struct Access {
     cell: Arc<Cell, Global>,
-    mark: Mark,
+    mark: CellPass,
 }
 
 impl Model for Access {
@@ -55,7 +55,7 @@ impl Access {
     }
 
     /// Keeps the left part of what is known, and gives the right one to a new pass.
-    pub(crate) fn split<M: Split<View>>(&mut self) -> Mark
+    pub(crate) fn split<M: Split<View>>(&mut self) -> CellPass
         requires { MaySplit IsKept self.old.knows (M.left self.old.knows) (M.right self.old.knows) }
         ensures kept { self.new ≡ record { cell = self.old.cell; knows = M.left self.old.knows } }
         ensures of { result.table_id ≡ self.old.cell }

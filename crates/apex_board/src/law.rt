@@ -53,7 +53,7 @@ pub type CellUnder<L> = RuledSeqCell<[u64; 3], View, L, 3>;
 pub type Cell = CellUnder<Law>;
 
 /// The pass with which a step on the cell is made.
-pub type Mark = Pass<[u64; 3], View>;
+pub type CellPass = Pass<[u64; 3], View>;
 
 /// A reader reads.
 pub struct Reading;

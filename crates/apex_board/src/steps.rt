@@ -5,7 +5,7 @@ ghost use Rattle.crossbeam_utils.specs.Seq.{cell_view};
 ghost use Rattle.apex_board.specs.Access.{MayHear, MaySplit, MayTurn};
 ghost use Rattle.apex_board.specs.Cells.{told_of};
 
-use crate::law::{CellUnder, Hearing, Mark, View};
+use crate::law::{CellPass, CellUnder, Hearing, View};
 use atomic_table::Split;
 use crossbeam_utils::rule::{Outcome, Protocol};
 use std::sync::Wait;
@@ -13,8 +13,8 @@ use std::sync::Wait;
 /// Keeps the left part of what is known, and gives the right one to a new pass.
 pub(crate) fn split<L: Protocol<[u64; 3], View>, M: Split<View>>(
     cell: &CellUnder<L>,
-    mark: &mut Mark,
-) -> Mark
+    mark: &mut CellPass,
+) -> CellPass
     requires own { mark.old.table_id ≡ cell.now.table.shared.table_id }
     requires rule { MaySplit L.holds (cell_view mark.old) (M.left (cell_view mark.old))
         (M.right (cell_view mark.old)) }
@@ -28,7 +28,11 @@ pub(crate) fn split<L: Protocol<[u64; 3], View>, M: Split<View>>(
 }
 
 /// Takes in what another pass knows, which `split` gave.
-pub(crate) fn join<L: Protocol<[u64; 3], View>>(cell: &CellUnder<L>, mark: &mut Mark, other: Mark)
+pub(crate) fn join<L: Protocol<[u64; 3], View>>(
+    cell: &CellUnder<L>,
+    mark: &mut CellPass,
+    other: CellPass,
+)
     requires own { mark.old.table_id ≡ cell.now.table.shared.table_id }
     requires of { other.table_id ≡ mark.old.table_id }
     requires whole { other.me.1 ≡ [] }
@@ -43,7 +47,7 @@ pub(crate) fn join<L: Protocol<[u64; 3], View>>(cell: &CellUnder<L>, mark: &mut 
 pub(crate) fn load<L: Protocol<[u64; 3], View>, M: Outcome<[u64; 3], View>, R: Wait>(
     cell: &CellUnder<L>,
     rt: &R,
-    mark: &mut Mark,
+    mark: &mut CellPass,
 ) -> [u64; 3]
     requires own { mark.old.table_id ≡ cell.now.table.shared.table_id }
     requires rule { MayTurn L.holds (cell_view mark.old) (λ words. words) M.then }
@@ -57,7 +61,7 @@ pub(crate) fn load<L: Protocol<[u64; 3], View>, M: Outcome<[u64; 3], View>, R: W
 pub(crate) fn swap<L: Protocol<[u64; 3], View>, M: Outcome<[u64; 3], View>, R: Wait>(
     cell: &CellUnder<L>,
     rt: &R,
-    mark: &mut Mark,
+    mark: &mut CellPass,
     words: [u64; 3],
 ) -> [u64; 3]
     requires own { mark.old.table_id ≡ cell.now.table.shared.table_id }
