@@ -1,8 +1,8 @@
 -- The words of a front give the front back.
-use Rattle.std.proofs.Common.{◌≡◌, ◌⊎◌, ⊎_elim, inl, inr, ℕ, zero, suc, ◌+◌, ◌<◌, ◌≤◌, List, [], ◌∷◌, ◌++◌, length, map, take, get_or, All, Option, None, Some, IfSome, refl, sym, ◌∙◌, ap, arith}
+use Rattle.std.proofs.Common.{◌≡◌, ◌⊎◌, ⊎_elim, inl, inr, ℕ, zero, suc, ◌+◌, ◌<◌, ◌≤◌, List, [], ◌∷◌, length, map, take, get_or, All, Option, None, Some, IfSome, refl, sym, ◌∙◌, ap, arith}
 use Rattle.std.specs.Int.{w64, from_le_bytes, to_le_bytes}
 use Rattle.std.specs.List.{range_with_len}
-use Rattle.std.proofs.lemmas.List.{get_or_past, map-append, take_more}
+use Rattle.std.proofs.lemmas.List.{get_or_past}
 use Rattle.std.proofs.lemmas.Nat.{le_bytes_8}
 use Rattle.std.proofs.lemmas.List.FromFn.{get_or-map-range_with_len, length-map-range_with_len, take-map-range_with_len}
 use Rattle.apex_types.specs.declared.limits.TheConstants.{MOST_CORES}
@@ -33,14 +33,6 @@ bytes_of front few = take-map-range_with_len (core_byte front) 0 MOST_CORES (len
         let more : (k : ℕ) → get_or front.chosen (a + 1 + k) None ≡ get_or xs k None =
         λ k. ap (λ (i : ℕ). get_or front.chosen i None) (omega arith) ∙ agree (suc k) in
         λ i. ap byte_of here i ∷ same (a + 1) xs more i
-
--- one core more
-pub one_more : (chosen : List (Option ℕ)) (bytes : List ℕ) (core byte : ℕ) (x : Option ℕ) → map byte_of chosen ≡ take core bytes → core < length bytes
-    → byte ≡ get_or bytes core byte → byte_of x ≡ byte → map byte_of (chosen ++ x ∷ []) ≡ take (core + 1) bytes
-one_more chosen bytes core byte x before within is same =
-    map-append byte_of chosen (x ∷ [])
-    ∙ (λ i. before i ++ (same ∙ is) i ∷ [])
-    ∙ sym (take_more bytes core byte within)
 
 -- a front of this table has a place for each of its cores
 pub front_cores : (table : Table) (history : List Entry) (front : Front) → IsFrontAfter table history front → length front.chosen ≡ table.cores
