@@ -155,6 +155,12 @@ pub fn print_report_json<W: Sink>(
     ensures err { (history : List Entry) → IsReportOf table.now history report.now → OnErr result
         (AppendsBeginning (W.contents (inner_of writer.old)) (W.contents (inner_of writer.new))
         (report_json table.now history)) }
+    ensures written { OnOk result
+        (Appends (W.contents (inner_of writer.old)) (W.contents (inner_of writer.new))
+        (json_of table.now report.now)) }
+    ensures begun { OnErr result
+        (AppendsBeginning (W.contents (inner_of writer.old)) (W.contents (inner_of writer.new))
+        (json_of table.now report.now)) }
     ensures counted { CountsFailure result (failures_of writer.old) (failures_of writer.new) }
     ensures failed { IfErr result (IsOfWrite W.accepts (inner_of writer.new)) }
 {
