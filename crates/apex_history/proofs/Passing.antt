@@ -1,5 +1,5 @@
 -- Texts that reach a writer by way of a page.
-use Rattle.std.proofs.Common.{◌≡◌, ℕ, List, [], ◌∷◌, ◌++◌, Option, sym, ap, subst, ◌∙◌, append_assoc}
+use Rattle.std.proofs.Common.{◌≡◌, ℕ, List, [], ◌∷◌, ◌++◌, Option, refl, sym, ap, subst, ◌∙◌, append_assoc}
 use Rattle.std.proofs.KnownBytes.{Appends-trans}
 use Rattle.std.specs.Io.KnownBytes.{Appends}
 use Rattle.apex_history.specs.Terms.{Entry}
@@ -21,6 +21,11 @@ beginning_after a b c text held p h =
     let (front, whole, first) = p in
     let (done, rest, split, second) = h in
     (front ++ done, rest, whole ∙ ap (λ l. front ++ l) split ∙ sym (append_assoc front done rest), Appends-trans a b c front done first second)
+
+-- a prefix of a text that is written behind another one is a prefix of both
+pub beginning_behind : (a b c : Option (List ℕ)) (text more : List ℕ) → Appends a b text → AppendsBeginning b c more
+    → AppendsBeginning a c (text ++ more)
+beginning_behind a b c text more first begun = beginning_after a b c (text ++ more) more (text, refl, first) begun
 
 -- bytes behind the text stay behind those that are held
 pub passes_with : (a b : Option (List ℕ)) (text held more : List ℕ) → Passes a b text held → Passes a b (text ++ more) (held ++ more)

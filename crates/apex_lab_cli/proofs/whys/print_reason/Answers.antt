@@ -1,8 +1,7 @@
 -- The line feed comes behind the reason.
 use Rattle.std.proofs.lemmas.Result.{on_err_weaker}
 use Rattle.apex_history.proofs.Outcomes.{OnErr-always}
-use Rattle.apex_history.proofs.Passing.{beginning_longer}
-use Rattle.apex_report.proofs.Printed.{beginning_behind}
+use Rattle.apex_history.proofs.Passing.{beginning_behind, beginning_longer}
 use Rattle.apex_lab_cli.proofs.whys.print_reason.Goals as goal
 
 pub returns-in_err-write_all-clause-err : goal.returns-in_err-write_all-clause-err

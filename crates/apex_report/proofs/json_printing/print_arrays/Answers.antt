@@ -3,10 +3,9 @@ use Rattle.std.proofs.KnownBytes.{Appends-trans}
 use Rattle.std.proofs.lemmas.Result.{on_err_weaker, on_ok_weaker}
 use Rattle.apex_json.specs.declared.Form.TheVariants.{Json}
 use Rattle.apex_history.proofs.Outcomes.{OnErr-always}
-use Rattle.apex_history.proofs.Passing.{beginning_longer}
+use Rattle.apex_history.proofs.Passing.{beginning_behind, beginning_longer}
 use Rattle.apex_report.specs.Json.{array_text}
 use Rattle.apex_report.specs.Rows.{core_row, object_row, process_row, service_row}
-use Rattle.apex_report.proofs.Printed.{beginning_behind}
 use Rattle.apex_report.proofs.json_printing.print_arrays.Goals as goal
 
 pub returns-in_err-print_array-clause-err : goal.returns-in_err-print_array-clause-err

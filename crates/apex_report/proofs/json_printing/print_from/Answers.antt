@@ -3,9 +3,8 @@ use Rattle.std.proofs.KnownBytes.{Appends-trans}
 use Rattle.std.proofs.lemmas.Result.{on_err_weaker, on_ok_weaker}
 use Rattle.apex_json.specs.declared.Form.TheVariants.{Json}
 use Rattle.apex_history.proofs.Outcomes.{OnErr-always}
-use Rattle.apex_history.proofs.Passing.{beginning_longer}
+use Rattle.apex_history.proofs.Passing.{beginning_behind, beginning_longer}
 use Rattle.apex_report.specs.Rows.{behind_text}
-use Rattle.apex_report.proofs.Printed.{beginning_behind}
 use Rattle.apex_report.proofs.json_printing.print_from.Goals as goal
 
 pub returns-in_err-write_all-clause-err : goal.returns-in_err-write_all-clause-err

@@ -4,9 +4,8 @@ use Rattle.std.proofs.lemmas.Result.{on_err_weaker, on_ok_weaker}
 use Rattle.apex_json.specs.declared.Form.TheVariants.{Text}
 use Rattle.apex_machine.specs.text.Status.{history_line}
 use Rattle.apex_history.proofs.Outcomes.{OnErr-always}
-use Rattle.apex_history.proofs.Passing.{beginning_longer}
+use Rattle.apex_history.proofs.Passing.{beginning_behind, beginning_longer}
 use Rattle.apex_report.specs.Rows.{core_row, object_row, process_row, service_row}
-use Rattle.apex_report.proofs.Printed.{beginning_behind}
 use Rattle.apex_report.proofs.printing.print_lines.Goals as goal
 
 pub returns-in_err-write_all-clause-err : goal.returns-in_err-write_all-clause-err
