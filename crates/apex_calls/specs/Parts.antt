@@ -20,8 +20,8 @@ use Rattle.apex_calls.specs.declared.catalogue.Service.TheVariants as services
 use Rattle.apex_calls.specs.declared.catalogue.Shape.TheVariants.{Number}
 
 -- the arguments of a service without any
-abbrev pub none : Arguments
-none = record {
+abbrev pub no_arguments : Arguments
+no_arguments = record {
   named = Known 0;
   entry = 0;
   number = 0;
@@ -32,11 +32,11 @@ none = record {
 
 -- those of an entry alone
 abbrev pub of_entry : ℕ → Arguments
-of_entry i = record none { entry = i }
+of_entry i = record no_arguments { entry = i }
 
 -- those of a name alone
 abbrev pub of_named : Named ℕ → Arguments
-of_named named = record none { named = named }
+of_named named = record no_arguments { named = named }
 
 -- the number, if the shape has one, is in its range
 abbrev pub IsInRange : Arguments → Shape → Type 0
@@ -182,22 +182,22 @@ mutex_parts (KindService i service) = mutex_service_parts service (of_entry i)
 
 -- a call of partition management
 abbrev pub partition_parts : PartitionCall → Service × Arguments
-partition_parts (SetPartitionMode mode) = (services.SetPartitionMode, record none { mode = mode })
-partition_parts GetPartitionStatus = (services.GetPartitionStatus, none)
+partition_parts (SetPartitionMode mode) = (services.SetPartitionMode, record no_arguments { mode = mode })
+partition_parts GetPartitionStatus = (services.GetPartitionStatus, no_arguments)
 
 -- a call that a process makes for itself
 abbrev pub caller_parts : CallerCall → Service × Arguments
-caller_parts StopSelf = (services.StopSelf, none)
-caller_parts (SuspendSelf timeout) = (services.SuspendSelf, record none { timeout = timeout })
-caller_parts GetMyId = (services.GetMyId, none)
-caller_parts GetMyProcessorCoreId = (services.GetMyProcessorCoreId, none)
+caller_parts StopSelf = (services.StopSelf, no_arguments)
+caller_parts (SuspendSelf timeout) = (services.SuspendSelf, record no_arguments { timeout = timeout })
+caller_parts GetMyId = (services.GetMyId, no_arguments)
+caller_parts GetMyProcessorCoreId = (services.GetMyProcessorCoreId, no_arguments)
 
 -- a call of time management
 abbrev pub time_parts : TimeCall → Service × Arguments
-time_parts (TimedWait timeout) = (services.TimedWait, record none { timeout = timeout })
-time_parts PeriodicWait = (services.PeriodicWait, none)
-time_parts (Replenish budget) = (services.Replenish, record none { number = budget })
-time_parts GetTime = (services.GetTime, none)
+time_parts (TimedWait timeout) = (services.TimedWait, record no_arguments { timeout = timeout })
+time_parts PeriodicWait = (services.PeriodicWait, no_arguments)
+time_parts (Replenish budget) = (services.Replenish, record no_arguments { number = budget })
+time_parts GetTime = (services.GetTime, no_arguments)
 
 -- the service that a call asks for, and its arguments
 abbrev pub parts_of : Call → Service × Arguments
@@ -210,4 +210,4 @@ parts_of (Buffer call) = buffer_parts call
 parts_of (Blackboard call) = blackboard_parts call
 parts_of (EventFlag call) = event_flag_parts call
 parts_of (Mutex call) = mutex_parts call
-parts_of (Work amount) = (services.Work, record none { number = amount })
+parts_of (Work amount) = (services.Work, record no_arguments { number = amount })

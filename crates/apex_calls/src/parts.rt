@@ -3,7 +3,7 @@ ghost use Rattle.std.specs.Prelude.{◌≡◌, ◌≤◌};
 ghost use Rattle.std.specs.List.{AllByRecursion};
 ghost use Rattle.apex_types.specs.declared.calls.ObjectCall.TheVariants.{Create, GetId, GetStatus, KindService};
 ghost use Rattle.apex_calls.specs.Catalogue.{row_of};
-ghost use Rattle.apex_calls.specs.Parts.{IsInRange, call_of, parts_of, none, of_entry, of_named, blackboard_parts, blackboard_service_parts, buffer_parts, buffer_service_parts, caller_parts, event_flag_parts, event_flag_service_parts, mutex_parts, mutex_service_parts, partition_parts, process_parts, process_service_parts, semaphore_parts, semaphore_service_parts, time_parts};
+ghost use Rattle.apex_calls.specs.Parts.{IsInRange, call_of, parts_of, no_arguments, of_entry, of_named, blackboard_parts, blackboard_service_parts, buffer_parts, buffer_service_parts, caller_parts, event_flag_parts, event_flag_service_parts, mutex_parts, mutex_service_parts, partition_parts, process_parts, process_service_parts, semaphore_parts, semaphore_service_parts, time_parts};
 
 use crate::catalogue::Service;
 use apex_types::{
@@ -34,7 +34,7 @@ pub struct Arguments {
 impl Arguments {
     /// The arguments of a service without any.
     pub fn none() -> Arguments
-        ensures { result ≡ none }
+        ensures { result ≡ no_arguments }
     {
         Arguments {
             named: Named::Known(0),

@@ -1,14 +1,12 @@
 //! The kernel of one partition: boot, turn, tick and run.
-ghost use Rattle.std.specs.Prelude.{◌≡◌, ◌<◌, ◌≤◌, ◌↔◌, ◌+◌, ◌^◌, [], ◌∷◌, ◌++◌, length, ◌&&◌, ◌==◌, if◌then◌else◌, None, Some, option_map, slice_get, All, IfOk, IfErr, OnOk, OnErr, IsOk};
+ghost use Rattle.std.specs.Prelude.{◌≡◌, ◌<◌, ◌≤◌, ◌↔◌, ◌+◌, ◌^◌, [], ◌∷◌, ◌++◌, length, ◌&&◌, ◌==◌, if◌then◌else◌, Some, slice_get, All, IfOk, IfErr, OnOk, OnErr, IsOk};
 ghost use Rattle.std.specs.Io.KnownBytes.{Appends};
-ghost use Rattle.apex_machine.specs.services.BufferServices.{BufferObject};
 ghost use Rattle.apex_types.specs.declared.limits.TheConstants.{MOST_ENTRIES, MOST_TICKS};
 ghost use Rattle.apex_types.specs.Limits.{latest};
 ghost use Rattle.apex_machine.specs.processes.Roster.{opening_roster};
 ghost use Rattle.apex_calls.specs.Lines.{IsPrintable, lines_of};
 ghost use Rattle.apex_machine.specs.text.Listing.{listing, listing_of};
 ghost use Rattle.apex_machine.specs.Machine.{opening, accept, turn, tick, run, replay, events_of, situation_of};
-ghost use Rattle.apex_machine.specs.services.SemaphoreServices.{SemaphoreObject};
 ghost use Rattle.apex_machine.specs.table.Table.{IsLawful};
 ghost use Rattle.apex_machine.specs.processes.Distinct.{HasDistinctStamps};
 ghost use Rattle.apex_history.specs.Counted.{inner_of, failures_of, CountsFailure, AppendsBeginning};
@@ -22,7 +20,7 @@ use apex_configs::Table;
 use apex_history::{Counted, Entries, Log, Page, Sink, print_history};
 use apex_services::Listing;
 use apex_store::Store;
-use apex_types::{BufferId, CoreId, Event, Full, LentEntry, Notices, SemaphoreId, Who};
+use apex_types::{CoreId, Event, Full, LentEntry, Notices, Who};
 use std::alloc::{AllocError, Global};
 use std::io;
 use std::marker::Model;
@@ -297,28 +295,6 @@ impl<S: Store> Kernel<S> {
         ensures { result ≡ self.now.machine.roster.now }
     {
         self.situation.now()
-    }
-
-    /// The value of the semaphore, created or not. None if the table has no such semaphore.
-    pub fn semaphore_value(&self, semaphore: SemaphoreId) -> Option<u16>
-        ensures { result ≡ option_map (λ (s : SemaphoreObject). s.value)
-            (slice_get self.now.objects.semaphores semaphore) }
-    {
-        match self.situation.objects().semaphores.get(semaphore.place()) {
-            Some(semaphore) => Some(semaphore.value()),
-            None => None,
-        }
-    }
-
-    /// The number of messages that the buffer holds. None if the table has no such buffer.
-    pub fn message_count(&self, buffer: BufferId) -> Option<usize>
-        ensures { result ≡ option_map (λ (b : BufferObject). length b.messages)
-            (slice_get self.now.objects.buffers buffer) }
-    {
-        match self.situation.objects().buffers.get(buffer.place()) {
-            Some(buffer) => Some(buffer.messages().len()),
-            None => None,
-        }
     }
 
     /// The store of its processes.

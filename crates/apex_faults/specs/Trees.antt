@@ -7,7 +7,11 @@ use Rattle.toml.specs.Data.{Data, Items, no_items, item, Members, no_members, me
 -- the members with this value at this key; they stay in the order of the bytes of their keys
 abbrev pub with_member : List ℕ → Data → Members → Members
 with_member k d no_members = member k d no_members
-with_member k d (member l e ms) = match_ordering (slice_cmp nat_cmp k l) (member k d (member l e ms)) (member l d ms) (member l e (with_member k d ms))
+with_member k d (member l e ms) =
+    let before = member k d (member l e ms) in
+    let here = member l d ms in
+    let behind = member l e (with_member k d ms) in
+    match_ordering (slice_cmp nat_cmp k l) before here behind
 
 -- the members without the one at this key
 abbrev pub without_member : List ℕ → Members → Members

@@ -1,5 +1,5 @@
 -- States that are laid out on desks.
-use Rattle.std.proofs.Common.{◌≡◌, ℕ, zero, suc, ◌+◌, ◌*◌, ◌^◌, ◌≤◌, List, [], ◌∷◌, ◌++◌, length, Some, IfOk, Result, refl, ◌∙◌, subst, inl, inr, arith}
+use Rattle.std.proofs.Common.{◌≡◌, ℕ, ◌+◌, ◌*◌, ◌^◌, ◌≤◌, List, [], ◌∷◌, ◌++◌, length, Some, IfOk, Result, ◌∙◌, subst, inl, inr, arith}
 use Rattle.std.specs.List.{slice_get, slice_set}
 use Rattle.std.specs.declared.alloc.AllocError.{AllocError}
 use Rattle.apex_explore.specs.Desks.{IsDesk, IsReady}
@@ -24,19 +24,6 @@ all_push P xs y all holds place x is =
       | inl before ↦ all place x before
       | inr last ↦ subst P last.1 holds
     ]
-
--- the last member and those before it
-pub all_popped : {X : Type 0} (P : X → Type 0) (xs : List X) (y : X) → AllAre P (xs ++ y ∷ []) → AllAre P xs × P y
-all_popped P xs y all = ((λ place x is. all place x (before xs y place x is)), all (length xs) y (last xs y))
-  where
-    before : {X : Type 0} (xs : List X) (y : X) (place : ℕ) (x : X) → slice_get xs place ≡ Some x → slice_get (xs ++ y ∷ []) place ≡ Some x
-    before [] y place x is = cc
-    before (z ∷ xs) y zero x is = is
-    before (z ∷ xs) y (suc place) x is = before xs y place x is
-
-    last : {X : Type 0} (xs : List X) (y : X) → slice_get (xs ++ y ∷ []) (length xs) ≡ Some y
-    last [] y = refl
-    last (z ∷ xs) y = last xs y
 
 -- copies of states of a system are ready
 pub copies_ready : {W : Type 0} (is_state : List ℕ → Type 0) (reached : Reached) (from limit : ℕ) (desk : Desk W) → AllAre is_state reached.states → limit ≤ 2 ^ 32 → IsCopied reached from limit desk.batch → IsReady is_state desk

@@ -89,54 +89,6 @@ core_up_to n e few few_ticks f up = record {
   idle_ticks = omega (arith, up.idle_ticks, some_ticks (not f.is_working) (ticks_in e.reply) few_ticks);
 }
 
-refusals_below : (n m : ℕ) → n ≤ m → (r : Refusals) → AreUpTo n r → AreUpTo m r
-refusals_below n m le r up = record {
-  no_action = omega (arith, up.no_action, le);
-  not_available = omega (arith, up.not_available, le);
-  invalid_param = omega (arith, up.invalid_param, le);
-  invalid_config = omega (arith, up.invalid_config, le);
-  invalid_mode = omega (arith, up.invalid_mode, le);
-}
-
-process_below : (n m : ℕ) → n ≤ m → (f : ProcessFigures) → IsProcessUpTo n f → IsProcessUpTo m f
-process_below n m le f up = record {
-  turns = omega (arith, up.turns, le);
-  misses = omega (arith, up.misses, le);
-  timeouts = omega (arith, up.timeouts, le);
-  work_done = omega (arith, up.work_done, le);
-  work_lost = omega (arith, up.work_lost, le);
-  refusals = refusals_below n m le f.refusals up.refusals;
-  jobs = record {
-    releases = omega (arith, up.jobs.releases, le);
-    completions = omega (arith, up.jobs.completions, le);
-    stops = omega (arith, up.jobs.stops, le);
-  };
-}
-
-core_below : (n m : ℕ) → n ≤ m → (f : CoreFigures) → IsCoreUpTo n f → IsCoreUpTo m f
-core_below n m le f up = record {
-  turns = omega (arith, up.turns, le);
-  idle = omega (arith, up.idle, le);
-  calls = omega (arith, up.calls, le);
-  lost = omega (arith, up.lost, le);
-  work_done = omega (arith, up.work_done, le);
-  work_lost = omega (arith, up.work_lost, le);
-  busy_ticks = omega (arith, up.busy_ticks, le);
-  idle_ticks = omega (arith, up.idle_ticks, le);
-}
-
-pub processes_below : (n m : ℕ) → n ≤ m → (fs : List ProcessFigures) → AllByRecursion (IsProcessUpTo n) fs → AllByRecursion (IsProcessUpTo m) fs
-processes_below n m le fs all = all_weaker (IsProcessUpTo n) (IsProcessUpTo m) (process_below n m le) fs all
-
-pub cores_below : (n m : ℕ) → n ≤ m → (fs : List CoreFigures) → AllByRecursion (IsCoreUpTo n) fs → AllByRecursion (IsCoreUpTo m) fs
-cores_below n m le fs all = all_weaker (IsCoreUpTo n) (IsCoreUpTo m) (core_below n m le) fs all
-
-service_below : (n m : ℕ) → n ≤ m → (f : ServiceFigures) → IsServiceUpTo n f → IsServiceUpTo m f
-service_below n m le f up = record { refusals = refusals_below n m le f.refusals up.refusals }
-
-pub services_below : (n m : ℕ) → n ≤ m → (fs : List ServiceFigures) → AllByRecursion (IsServiceUpTo n) fs → AllByRecursion (IsServiceUpTo m) fs
-services_below n m le fs all = all_weaker (IsServiceUpTo n) (IsServiceUpTo m) (service_below n m le) fs all
-
 -- no count is above 0 before any entry
 pub processes_zero : (ps : List ℕ) → AllByRecursion (IsProcessUpTo 0) (map (process_figures []) ps)
 processes_zero [] = tt

@@ -14,7 +14,7 @@ use Rattle.apex_report.specs.ReportSteps.{AreCounted}
 use Rattle.apex_report.specs.Services.{service_figures}
 use Rattle.apex_report.specs.Steps.{core_after, process_after, service_after, IsCoreUpTo, IsProcessUpTo, IsServiceUpTo}
 use Rattle.apex_report.specs.Terms.{CoreFigures, Entry, ObjectFigures, Owner, ProcessFigures, Queue, Service, ServiceFigures, Waking}
-use Rattle.apex_report.proofs.Bounds.{all_mapped, all_weaker, core_up_to, cores_zero, one_at_most, process_up_to, processes_zero, service_up_to, services_zero}
+use Rattle.apex_report.proofs.Bounds.{all_mapped, core_up_to, cores_zero, one_at_most, process_up_to, processes_zero, service_up_to, services_zero}
 use Rattle.apex_report.proofs.Settled.{settled_more}
 
 new_owner_up_to : (n : ℕ) (e : Entry) (p : Option ℕ) → IsOwnerUpTo (n + 1) (option_map (owner_from e) p)
@@ -45,21 +45,6 @@ object_up_to n e woken processes few f up = record {
   timeouts = omega (arith, up.timeouts, few, count_by-le-length (is_late f.object) woken);
   owner = owner_up_to f.object n e woken f.owner up.owner;
 }
-
-owner_below : (n m : ℕ) → n ≤ m → (owner : Option Owner) → IsOwnerUpTo n owner → IsOwnerUpTo m owner
-owner_below n m le None up = tt
-owner_below n m le (Some owner) up = omega (arith, up, le)
-
-object_below : (n m : ℕ) → n ≤ m → (f : ObjectFigures) → IsObjectUpTo n f → IsObjectUpTo m f
-object_below n m le f up = record {
-  given = omega (arith, up.given, le);
-  taken = omega (arith, up.taken, le);
-  timeouts = omega (arith, up.timeouts, le);
-  owner = owner_below n m le f.owner up.owner;
-}
-
-pub objects_below : (n m : ℕ) → n ≤ m → (fs : List ObjectFigures) → AllByRecursion (IsObjectUpTo n) fs → AllByRecursion (IsObjectUpTo m) fs
-objects_below n m le fs all = all_weaker (IsObjectUpTo n) (IsObjectUpTo m) (object_below n m le) fs all
 
 -- the counts after one entry more
 pub counted_more : (n : ℕ) (ps : List ProcessFigures) (cs : List CoreFigures) (os : List ObjectFigures)

@@ -1,7 +1,6 @@
 -- A reply that refuses no call counts for no service.
-use Rattle.std.proofs.Common.{◌≡◌, ℕ, ◌+◌, ◌<◌, Bool, true, false, List, [], ◌∷◌, ◌++◌, get_or, length, take, map, zero, suc, refl, sym, ap, ◌∙◌, arith}
+use Rattle.std.proofs.Common.{◌≡◌, ℕ, ◌<◌, Bool, true, false, List, [], ◌∷◌, get_or, length, map, zero, suc, refl, sym, ap, ◌∙◌, arith}
 use Rattle.std.proofs.lemmas.Bool.{true≢false}
-use Rattle.std.proofs.lemmas.List.{map-append, take_more}
 use Rattle.apex_calls.specs.declared.catalogue.Service.TheVariants.{SetPartitionMode}
 use Rattle.apex_types.specs.declared.entries.Reply.TheVariants.{Code}
 use Rattle.apex_types.specs.declared.entries.ReturnCode.TheVariants.{NoAction, NotAvailable, InvalidParam, InvalidConfig, InvalidMode}
@@ -37,12 +36,6 @@ none_refused e [] fails = refl
 none_refused e (f ∷ fs) fails =
     ap (λ g. g ∷ fs) (sym (by_call e f (is_call_of f.service e) fails))
     ∙ ap (λ gs. service_after e f ∷ gs) (none_refused e fs fails)
-
--- one element more
-pub mapped_more : {X Y : Type 0} (f : X → Y) (xs : List X) (i : ℕ) (x : X) → i < length xs → x ≡ get_or xs i x
-    → map f (take (i + 1) xs) ≡ map f (take i xs) ++ f x ∷ []
-mapped_more f xs i x within here =
-    ap (map f) (take_more xs i x within ∙ ap (λ y. take i xs ++ y ∷ []) (sym here)) ∙ map-append f (take i xs) (x ∷ [])
 
 -- what stands in for the figures of a service past the end of a list
 abbrev pub no_service : ServiceFigures

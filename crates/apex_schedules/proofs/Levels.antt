@@ -5,7 +5,6 @@ use Rattle.std.specs.List.{flat_map}
 use Rattle.std.proofs.lemmas.List.{drop-append-le, take-append-le, take-append-drop, length-take-le, reverse-append}
 use Rattle.std.proofs.lemmas.List.Concat.{length-flat_map}
 use Rattle.std.proofs.lemmas.List.Folds.{sum_by-replicate}
-use Rattle.std.proofs.Math.Seq.{drop-length, take-length}
 use Rattle.std.proofs.Math.Nat.{mul_comm}
 use Rattle.apex_types.specs.declared.limits.TheConstants.{MOST_ENTRIES}
 use Rattle.apex_schedules.specs.declared.groups.Refusal.TheVariants as refusal
@@ -78,13 +77,6 @@ item_refused items starts item reading many = λ rest.
     grows MOST_ENTRIES (inner items (reverse starts) ++ item ∷ []) (outer items (reverse starts)) rest
     (omega (arith, many, sizes items (reverse starts) reading.1, length-append (inner items (reverse starts)) (item ∷ [])))
 
-pub open_taken : (items : List Item) (starts : List ℕ) → IsReading items starts
-    → IsTaken items starts (Some piece.Open) (Ok tt) items (starts ++ length items ∷ [])
-open_taken items starts reading =
-    let turned : reverse (starts ++ length items ∷ []) ≡ length items ∷ reverse starts = reverse-append starts (length items ∷ []) in
-    let all : take (length items) items ≡ items = take-length items in
-    ((reading.0, rw turned (omega arith, reading.1)), λ rest. rw (turned, drop-length items, all) refl)
-
 -- a group is closed: the reading before it, and the items with the group's copies behind them
 closed : (items : List Item) (start : ℕ) (more : List ℕ) (times : ℕ) (rest : List (Option Piece)) → AreStarts (length items) (start ∷ more)
     → items_behind (inner items (start ∷ more)) (outer items (start ∷ more)) (Some (piece.Close times) ∷ rest)
@@ -102,11 +94,6 @@ copies_length copies items = length-flat_map (λ copy. copy) (replicate copies i
 
 turned_end : (starts : List ℕ) (start : ℕ) → reverse (starts ++ start ∷ []) ≡ start ∷ reverse starts
 turned_end starts start = reverse-append starts (start ∷ [])
-
-pub start_within : (items : List Item) (starts all : List ℕ) (start : ℕ) → all ≡ starts ++ start ∷ [] → IsReading items all → start ≤ length items
-start_within items starts all start e reading =
-    let ordered : AreStarts (length items) (start ∷ reverse starts) = subst (AreStarts (length items)) (ap reverse e ∙ turned_end starts start) reading.1 in
-    ordered.0
 
 pub close_taken : (items : List Item) (starts all : List ℕ) (start times : ℕ) (new : List Item) → all ≡ starts ++ start ∷ [] → IsReading items all
     → new ≡ items ++ flat_map (λ copy. copy) (replicate (times - 1) (drop start items))

@@ -78,22 +78,6 @@ pub behind_word : (word : List ℕ) (one other : List (List ℕ)) → filled one
 behind_word [] one other same = same
 behind_word (byte ∷ rest) one other same = ap (λ l. (byte ∷ rest) ∷ l) same
 
--- the first word of a text that begins with a space or a line feed
-pub gap_first : (text after : List ℕ) → 0 < length text → after ≡ take (length text - 1) (drop 1 text) → is_gap (slice_index text 0) ≡ true
-    → filled (words text) ≡ filled (take 0 text ∷ words after)
-gap_first [] after some rest gap = absurd (omega arith)
-gap_first (byte ∷ more) after some rest gap =
-    let left : after ≡ more = rest ∙ take_rest (byte ∷ more) 1 in
-    rw (gap, left) refl
-
--- the first word of a text that begins with `(`
-pub bracket_first : (text after : List ℕ) → 0 < length text → after ≡ take (length text - 1) (drop 1 text) → slice_index text 0 ≡ 40
-    → filled (words text) ≡ filled (take 1 text ∷ words after)
-bracket_first [] after some rest bracket = absurd (omega arith)
-bracket_first (byte ∷ more) after some rest bracket =
-    let left : after ≡ more = rest ∙ take_rest (byte ∷ more) 1 in
-    rw (bracket, left) refl
-
 -- any other first word
 pub other_first : (text after : List ℕ) (n : ℕ) → 0 < length text → after ≡ take (length text - 1) (drop 1 text)
     → is_gap (slice_index text 0) ≡ false → ¬ (slice_index text 0 ≡ 40) → n ≡ position_or_len is_boundary after

@@ -1,7 +1,7 @@
 -- Texts that are gathered in a page, one behind the other: those of the things of a section, and
 -- the sections.
 use Rattle.std.proofs.Common.{◌≡◌, ℕ, zero, suc, ◌+◌, ◌-◌, ◌<◌, List, [], ◌∷◌, ◌++◌, Option, length, take, drop, get_or, refl, sym, ap, ◌∙◌, append_assoc, append-nil, take-append-drop, arith}
-use Rattle.std.proofs.KnownBytes.{Appends-nil, Appends-trans}
+use Rattle.std.proofs.KnownBytes.{Appends-trans}
 use Rattle.std.specs.Prelude.{flat_map}
 use Rattle.std.proofs.lemmas.List.{take_more}
 use Rattle.std.proofs.lemmas.List.Concat.{flat_map-append}
@@ -12,10 +12,6 @@ use Rattle.apex_history.specs.Page.{Passes}
 use Rattle.apex_history.proofs.Passing.{beginning_after, beginning_longer, passes_with}
 use Rattle.apex_services.specs.declared.listing.Section.TheVariants.{Cores, Processes, Semaphores, Buffers, Blackboards, EventFlags, Mutexes}
 use Rattle.apex_services.specs.Sections.{Listed, sections, section_text}
-
--- nothing is gathered behind the text of the page
-pub gathers_none : (a : Option (List ℕ)) (held : List ℕ) → Passes a a (held ++ []) held
-gathers_none a held = ([], append-nil held, Appends-nil a)
 
 module _ (a b c : Option (List ℕ)) (text held more : List ℕ) (p : Passes a b text held) where
   -- one more text is gathered

@@ -26,7 +26,7 @@ pub use laws::{
 };
 pub use objects::{Object, serve_object};
 pub use owners::{is_owner, is_waiting_owner};
-pub use periods::next_release;
+pub use periods::release_after;
 pub use plain_store::{PlainStore, stays_level};
 pub use store::Store;
 pub use waiting::wait_for;

@@ -10,7 +10,7 @@ use apex_types::ProcessId;
 
 /// The next release of the process, in ticks: the first instant above now that is one or more whole
 /// periods after its last release. None for an aperiodic process.
-pub fn next_release<S: Store>(store: &S, process: ProcessId) -> Option<u64>
+pub fn release_after<S: Store>(store: &S, process: ProcessId) -> Option<u64>
     requires known { process < length (S.roster store.now).records }
     requires time { HasTime (S.roster store.now) }
     requires releases { HasNoFutureRelease (S.roster store.now) }

@@ -19,10 +19,6 @@ pub ok_unless : {A : Type 0} (b : Bool) (fault : TableFault) (x : A) (P : A → 
 ok_unless true fault x P h = tt
 ok_unless false fault x P h = h refl
 
-pub ok_branch : {A : Type 0} (b : Bool) (r other : Result A TableFault) (P : A → Type 0) → IfOk r P → IfOk other P → IfOk (if b then r else other) P
-ok_branch true r other P here there = here
-ok_branch false r other P here there = there
-
 pub both_ok : {A : Type 0} (r : Result A TableFault) (P Q : A → Type 0) {R : A → Type 0} → ((x : A) → P x → Q x → R x) → IfOk r P → IfOk r Q → IfOk r R
 both_ok (Ok x) P Q gives left right = gives x left right
 both_ok (Err e) P Q gives left right = tt

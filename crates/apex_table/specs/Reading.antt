@@ -74,7 +74,8 @@ unfoldable pub with_steps : TableDraft → Result Table TableFault
 with_steps drafted = do
   procs ← with_scripts (names_of drafted.processes drafted.objects) drafted.processes
   steps ← init_list (names_of drafted.processes drafted.objects) procs drafted.objects drafted.init
-  Ok (table_with drafted.head.profile drafted.head.cores drafted.head.limit procs drafted.objects steps)
+  Ok (table_with drafted.head.profile drafted.head.cores drafted.head.limit procs
+      drafted.objects steps)
 
 -- the table of TOML's tree
 unfoldable pub reading : Members → Result Table TableFault

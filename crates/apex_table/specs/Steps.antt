@@ -7,7 +7,7 @@ use Rattle.apex_machine.specs.table.Table.{Step}
 use Rattle.apex_types.specs.declared.calls.Named.TheVariants.{Known, Unknown}
 use Rattle.apex_types.specs.declared.calls.Origin.TheVariants.{Init, Script}
 use Rattle.apex_calls.specs.Catalogue.{Row, rows, row_in}
-use Rattle.apex_calls.specs.Parts.{none, call_of}
+use Rattle.apex_calls.specs.Parts.{call_of, no_arguments}
 use Rattle.apex_calls.specs.declared.catalogue.Shape.TheVariants.{Entry, Named, Number, Timeout, Message, Mode}
 use Rattle.apex_table.specs.Terms.{Arguments, Origin, Place, RequestedMode, Shape, Subject, TableFault, Timeout as TimeoutOf}
 use Rattle.apex_words.specs.declared.fault.TableFault.TheVariants.{BadStep}
@@ -65,7 +65,7 @@ pub record Given : Type 0 where
 
 -- the values of no word
 abbrev pub nothing : Given
-nothing = record { arguments = none; literal = [] }
+nothing = record { arguments = no_arguments; literal = [] }
 
 -- one more argument
 abbrev pub with_entry : Given → ℕ → Given

@@ -12,7 +12,7 @@ ghost use Rattle.apex_types.specs.declared.calls.TimeCall.TheVariants.{PeriodicW
 
 use crate::objects::Objects;
 use apex_machine::Wait;
-use apex_store::{Store, due_after, is_owner, next_release};
+use apex_store::{Store, due_after, is_owner, release_after};
 use apex_types::{Caller, ProcessId, Reply, ReturnCode, Span, TimeCall, Timeout};
 
 /// TIMED_WAIT by a process: INVALID_PARAM if the time is infinite.
@@ -81,7 +81,7 @@ fn periodic_wait<S: Store>(store: &mut S, objects: &Objects, process: ProcessId)
     if fields.attributes.period.is_none() || fields.owns_some() {
         return Reply::Code(ReturnCode::InvalidMode);
     }
-    let due = next_release(store, process);
+    let due = release_after(store, process);
     store.set_deadline(process, None);
     store.block(process, Wait::Period, due);
     Reply::Blocked
