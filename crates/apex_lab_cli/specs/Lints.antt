@@ -7,14 +7,14 @@ use Rattle.apex_incoming.specs.Ahead.{IsAhead}
 use Rattle.apex_console.specs.declared.CliFault.TheVariants.{Memory, Read, Write}
 use Rattle.apex_lint.specs.Reports.{IsReportOn}
 use Rattle.apex_lint.specs.declared.Report.{Report}
-use Rattle.apex_lint.specs.declared.Verdict.{Verdict}
-use Rattle.apex_lint.specs.declared.Verdict.TheVariants.{Accepted, Warned, Refused}
+use Rattle.apex_lint.specs.declared.LintVerdict.{LintVerdict}
+use Rattle.apex_lint.specs.declared.LintVerdict.TheVariants.{Accepted, Warned, Refused}
 use Rattle.apex_lab_cli.specs.Ends.{End, complete, fails, refuses, warns}
 use Rattle.apex_lab_cli.specs.declared.faults.LabFault.TheVariants.{Common}
 use Rattle.apex_tasks.specs.Lints.{Lint}
 
 -- the end with this verdict
-abbrev pub end_with : Verdict → End
+abbrev pub end_with : LintVerdict → End
 end_with Accepted = complete
 end_with Warned = warns
 end_with Refused = refuses

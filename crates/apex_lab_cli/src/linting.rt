@@ -9,18 +9,18 @@ use crate::ends::Ending;
 use crate::faults::LabFault;
 use apex_console::CliFault;
 use apex_history::{Counted, Sink, Source, read_all};
-use apex_lint::{Verdict, report_on};
+use apex_lint::{LintVerdict, report_on};
 use apex_tasks::Lint;
 use std::alloc::Global;
 use std::io::Write;
 
-fn ending_with(verdict: Verdict) -> Result<Ending, LabFault>
+fn ending_with(verdict: LintVerdict) -> Result<Ending, LabFault>
     ensures { end_in result ≡ end_with verdict }
 {
     match verdict {
-        Verdict::Accepted => Ok(Ending::Complete),
-        Verdict::Warned => Ok(Ending::Warned),
-        Verdict::Refused => Ok(Ending::Refused),
+        LintVerdict::Accepted => Ok(Ending::Complete),
+        LintVerdict::Warned => Ok(Ending::Warned),
+        LintVerdict::Refused => Ok(Ending::Refused),
     }
 }
 

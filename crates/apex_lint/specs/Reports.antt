@@ -10,8 +10,8 @@ use Rattle.apex_words.specs.declared.subject.Part.TheVariants as part
 use Rattle.apex_faults.specs.Locations.{IsLocationIn}
 use Rattle.apex_faults.specs.declared.Location.{Location}
 use Rattle.apex_remarks.specs.Remarks.{Head, head, heads_by, severity_word}
-use Rattle.apex_lint.specs.Terms.{Form, Part, Remark, Report, Subject, TableFault, Verdict}
-use Rattle.apex_lint.specs.declared.reports.Verdict.TheVariants.{Accepted, Warned, Refused}
+use Rattle.apex_lint.specs.Terms.{Form, Part, Remark, Report, Subject, TableFault, LintVerdict}
+use Rattle.apex_lint.specs.declared.reports.LintVerdict.TheVariants.{Accepted, Warned, Refused}
 
 -- the number of an entry, unless the remark is about the section as a whole
 abbrev pub number_words : ℕ → List ℕ
@@ -145,12 +145,12 @@ report_text Text file remarks = lines_text file remarks
 report_text Json file remarks = objects_text file remarks
 
 -- the verdict on a table, by the remarks
-abbrev pub verdict_on : List Head → Verdict
+abbrev pub verdict_on : List Head → LintVerdict
 verdict_on [] = Accepted
 verdict_on (head ∷ heads) = Warned
 
 -- the verdict on a text, by what reading it gives and by the remarks
-abbrev pub verdict_by : Result Table TableFault → List Head → Verdict
+abbrev pub verdict_by : Result Table TableFault → List Head → LintVerdict
 verdict_by (Err fault) heads = Refused
 verdict_by (Ok table) heads = verdict_on heads
 

@@ -5,4 +5,4 @@ pub use Rattle.apex_words.specs.declared.subject.Part.{Part}
 pub use Rattle.apex_words.specs.declared.subject.Subject.{Subject}
 pub use Rattle.apex_remarks.specs.declared.remarks.Remark.{Remark}
 pub use Rattle.apex_lint.specs.declared.reports.Report.{Report}
-pub use Rattle.apex_lint.specs.declared.reports.Verdict.{Verdict}
+pub use Rattle.apex_lint.specs.declared.reports.LintVerdict.{LintVerdict}

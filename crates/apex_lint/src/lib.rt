@@ -3,4 +3,4 @@
 
 mod reports;
 
-pub use reports::{Report, Verdict, report_on, reports_have_a_line_for_each_remark};
+pub use reports::{LintVerdict, Report, report_on, reports_have_a_line_for_each_remark};

@@ -16,7 +16,7 @@ use std::alloc::{AllocError, Global};
 
 /// What a table's text is found to be.
 #[derive(Clone, Copy, PartialEq, Eq)]
-pub enum Verdict {
+pub enum LintVerdict {
     /// A table without a warning.
     Accepted,
     /// A table with a warning.
@@ -30,8 +30,7 @@ pub enum Verdict {
 pub struct Report {
     /// Its bytes, in the form that was asked for.
     pub text: Vec<u8>,
-    /// Whether the text is a table, and whether there is a warning about it.
-    pub verdict: Verdict,
+    pub verdict: LintVerdict,
 }
 
 /// The place of a subject: the section, and the number of the entry if it is about one.
@@ -416,12 +415,12 @@ fn report_text(
 }
 
 /// The verdict on a table with these remarks.
-fn verdict_on(remarks: &[Remark]) -> Verdict
+fn verdict_on(remarks: &[Remark]) -> LintVerdict
     ensures { result ≡ verdict_on (map head remarks.now) }
 {
     match remarks {
-        [] => Verdict::Accepted,
-        [_, ..] => Verdict::Warned,
+        [] => LintVerdict::Accepted,
+        [_, ..] => LintVerdict::Warned,
     }
 }
 
@@ -429,7 +428,7 @@ fn verdict_on(remarks: &[Remark]) -> Verdict
 #[derive(Drop)]
 struct Judgement {
     remarks: Vec<Remark>,
-    verdict: Verdict,
+    verdict: LintVerdict,
 }
 
 /// The remarks on the text without the warnings that are `allowed`, and the verdict.
@@ -450,7 +449,7 @@ fn judge(alloc: Global, allowed: &[&str], text: &[u8]) -> Result<Judgement, Allo
         Err(TableFault::Memory) => Err(AllocError),
         Err(_) => {
             let remarks = remarks_on_faults(alloc, text)?;
-            let verdict = Verdict::Refused;
+            let verdict = LintVerdict::Refused;
             Ok(Judgement { remarks, verdict })
         }
     }

@@ -8,11 +8,11 @@ use Rattle.apex_schedules.specs.declared.ScheduleFault.TheVariants as schedules
 use Rattle.apex_showings.specs.declared.schedules.BadSchedule.{BadSchedule}
 use Rattle.apex_showings.specs.declared.schedules.ItemsFault.{ItemsFault}
 use Rattle.apex_showings.specs.declared.schedules.ItemsFault.TheVariants.{Memory, Schedule}
-use Rattle.apex_showings.specs.declared.schedules.Reason.{Reason}
-use Rattle.apex_showings.specs.declared.schedules.Reason.TheVariants.{IllFormed, TooMany}
+use Rattle.apex_showings.specs.declared.schedules.ScheduleReason.{ScheduleReason}
+use Rattle.apex_showings.specs.declared.schedules.ScheduleReason.TheVariants.{IllFormed, TooMany}
 
 -- the fault of a schedule's text for this reason, at a place
-abbrev pub fault_at : Reason → Place → ScheduleFault
+abbrev pub fault_at : ScheduleReason → Place → ScheduleFault
 fault_at IllFormed place = schedules.IllFormed place
 fault_at TooMany place = schedules.TooMany place
 

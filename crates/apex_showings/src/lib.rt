@@ -5,6 +5,6 @@ mod schedules;
 mod showings;
 mod windows;
 
-pub use schedules::{BadSchedule, ItemsFault, Reason, read_items};
+pub use schedules::{BadSchedule, ItemsFault, ScheduleReason, read_items};
 pub use showings::{Chart, Listing, Picture, RunSource, Showing, View};
 pub use windows::{Bound, EmptyWindow, EntryRange, Window};

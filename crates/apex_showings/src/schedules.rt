@@ -8,7 +8,7 @@ use std::alloc::Global;
 
 /// The reason why a text is no schedule.
 #[derive(Clone, Copy, PartialEq, Eq)]
-pub enum Reason {
+pub enum ScheduleReason {
     /// A word is neither an item nor a bracket, its bracket closes no group, or the text ends in a
     /// group.
     IllFormed,
@@ -19,8 +19,7 @@ pub enum Reason {
 /// A fault of a schedule's text, with its place.
 #[derive(Clone, Copy, PartialEq, Eq)]
 pub struct BadSchedule {
-    /// Why the text is no schedule.
-    pub reason: Reason,
+    pub reason: ScheduleReason,
     /// The number of the item, from 1.
     pub item: usize,
     /// The line of the place, from 1.
@@ -39,7 +38,7 @@ pub enum ItemsFault {
 }
 
 /// The fault of a schedule's text for this reason, at a place.
-fn bad_at(reason: Reason, place: Place, text: &[u8]) -> BadSchedule
+fn bad_at(reason: ScheduleReason, place: Place, text: &[u8]) -> BadSchedule
     requires { IsFaultOf text.now (fault_at reason place) }
     ensures { IsBadIn text.now result }
 {
@@ -59,9 +58,13 @@ fn fault_of_schedule(fault: ScheduleFault, text: &[u8]) -> ItemsFault
 {
     match fault {
         ScheduleFault::IllFormed(place) => {
-            ItemsFault::Schedule(bad_at(Reason::IllFormed, place, text))
+            ItemsFault::Schedule(bad_at(ScheduleReason::IllFormed, place, text))
         }
-        ScheduleFault::TooMany(place) => ItemsFault::Schedule(bad_at(Reason::TooMany, place, text)),
+        ScheduleFault::TooMany(place) => ItemsFault::Schedule(bad_at(
+            ScheduleReason::TooMany,
+            place,
+            text,
+        )),
         ScheduleFault::Memory => ItemsFault::Memory,
     }
 }

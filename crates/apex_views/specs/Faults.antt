@@ -7,8 +7,8 @@ use Rattle.apex_showings.specs.Windows.{has_time}
 use Rattle.apex_showings.specs.declared.BadSchedule.{BadSchedule}
 use Rattle.apex_showings.specs.declared.ItemsFault.{ItemsFault}
 use Rattle.apex_showings.specs.declared.ItemsFault.TheVariants as items
-use Rattle.apex_showings.specs.declared.Reason.{Reason}
-use Rattle.apex_showings.specs.declared.Reason.TheVariants.{IllFormed, TooMany}
+use Rattle.apex_showings.specs.declared.ScheduleReason.{ScheduleReason}
+use Rattle.apex_showings.specs.declared.ScheduleReason.TheVariants.{IllFormed, TooMany}
 use Rattle.apex_views.specs.declared.faults.ShowFault.{ShowFault}
 use Rattle.apex_views.specs.declared.faults.ShowFault.TheVariants.{Common, Schedule as BadText}
 use Rattle.apex_showings.specs.declared.Bound.{Bound}
@@ -24,7 +24,7 @@ abbrev pub too_many_text : List ℕ
 too_many_text = codes "more than " ++ decimal MOST_ENTRIES ++ codes " items"
 
 -- the reason of a fault
-abbrev pub reason_text : Reason → List ℕ
+abbrev pub reason_text : ScheduleReason → List ℕ
 reason_text IllFormed = codes "ill-formed"
 reason_text TooMany = too_many_text
 

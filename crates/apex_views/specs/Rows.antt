@@ -2,8 +2,8 @@
 use Rattle.std.specs.Prelude.{ℕ, List, [], ◌∷◌, Option, None, Some, Result, Ok, Err}
 use Rattle.apex_machine.specs.table.Table.{Table}
 use Rattle.apex_names.specs.Processes.{place_of}
-use Rattle.apex_views.specs.declared.rows.Chosen.{Chosen}
-use Rattle.apex_views.specs.declared.rows.Chosen.TheVariants.{All, Lacking, These}
+use Rattle.apex_views.specs.declared.rows.RowsAsked.{RowsAsked}
+use Rattle.apex_views.specs.declared.rows.RowsAsked.TheVariants.{All, Lacking, These}
 
 -- the places with this one before them, if there is such a process; or else the name that a table lacks
 abbrev pub with_place : List ℕ → Option ℕ → Result (List ℕ) (List ℕ) → Result (List ℕ) (List ℕ)
@@ -29,7 +29,7 @@ rows_for table None = Ok None
 rows_for table (Some names) = some_of (places_named table names)
 
 -- the same, of a value of the program
-abbrev pub chosen_said : Chosen → Result (Option (List ℕ)) (List ℕ)
-chosen_said All = Ok None
-chosen_said (These processes) = Ok (Some processes.items)
-chosen_said (Lacking name) = Err name
+abbrev pub rows_said : RowsAsked → Result (Option (List ℕ)) (List ℕ)
+rows_said All = Ok None
+rows_said (These processes) = Ok (Some processes.items)
+rows_said (Lacking name) = Err name

@@ -11,7 +11,7 @@ ghost use Rattle.apex_views.specs.declared.faults.TheConstants.{LINE_ROOM};
 use apex_console::CliFault;
 use apex_history::ReadFault;
 use apex_pictures::Excerpt;
-use apex_showings::{BadSchedule, Bound, EmptyWindow, ItemsFault, Reason};
+use apex_showings::{BadSchedule, Bound, EmptyWindow, ItemsFault, ScheduleReason};
 use apex_texts::{push_long_number, push_number};
 use apex_types::{MOST_ENTRIES, Name};
 use arrayvec::ArrayString;
@@ -108,14 +108,14 @@ fn put_too_many(line: &mut Line)
     line.push_str(" items");
 }
 
-fn put_reason(line: &mut Line, reason: Reason)
+fn put_reason(line: &mut Line, reason: ScheduleReason)
     requires { array_string_len line.old + 36 ≤ LINE_ROOM }
     ensures text { line.new.bytes ≡ line.old.bytes ++ reason_text reason }
     ensures short { array_string_len line.new ≤ array_string_len line.old + 36 }
 {
     match reason {
-        Reason::IllFormed => line.push_str("ill-formed"),
-        Reason::TooMany => put_too_many(line),
+        ScheduleReason::IllFormed => line.push_str("ill-formed"),
+        ScheduleReason::TooMany => put_too_many(line),
     }
 }
 

@@ -17,7 +17,7 @@ use crate::departures::{Departure, kernel_before};
 use crate::faults::ShowFault;
 use crate::parts::parted;
 use crate::plans::{Plan, frame_for, plan_in, trace_plan};
-use crate::rows::{Chosen, rows_for};
+use crate::rows::{RowsAsked, rows_for};
 use crate::runs::run_at_pace;
 use apex_check::{Followed, Verdict, follow, verdict_text};
 use apex_console::{CliFault, Run, run_of, table_for};
@@ -102,11 +102,11 @@ fn svg_of(
 {
     let chosen = rows_for(alloc, run.kernel.table(), &chart.only)?;
     match chosen {
-        Chosen::All => charted(alloc, chart, None, departure, run),
-        Chosen::These(processes) => {
+        RowsAsked::All => charted(alloc, chart, None, departure, run),
+        RowsAsked::These(processes) => {
             charted(alloc, chart, Some(processes.as_slice()), departure, run)
         }
-        Chosen::Lacking(name) => Ok(GivenRun::Lacking(name, run)),
+        RowsAsked::Lacking(name) => Ok(GivenRun::Lacking(name, run)),
     }
 }
 
