@@ -23,9 +23,8 @@ mod rows;
 mod texts;
 mod trials;
 
-pub use attempts::{Attempt, Calls, Change, Part};
+pub use attempts::{Attempt, Calls, Part};
 pub use cases::Case;
-pub use devices::Devices;
 pub use faults::CaseFault;
 pub use folders::{CaseFile, read_folder};
 pub use folds::unfolded;

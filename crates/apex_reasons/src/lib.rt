@@ -13,6 +13,6 @@ mod rules;
 mod texts;
 
 pub use guards::Guard;
-pub use reasons::{Reason, reason_for, reason_of};
+pub use reasons::{Reason, reason_of};
 pub use rules::{Rule, WaitCause};
 pub use texts::ReasonText;

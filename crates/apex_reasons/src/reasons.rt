@@ -163,7 +163,7 @@ fn tick_rule<S: Store>(store: &S, n: u32) -> Rule
 
 /// The reason of an event in this situation, which is one of the table.
 #[tactic(auto, using(crate::proofs::Reasoned::reason_is))]
-pub fn reason_for<S: Store>(table: &Table, situation: &Situation<S>, event: Event) -> Reason
+pub(crate) fn reason_for<S: Store>(table: &Table, situation: &Situation<S>, event: Event) -> Reason
     requires all { AreOfTable table.now situation.now.roster situation.now.objects }
     requires event { IsWithin table.now.cores event }
     ensures value { result ≡ reasons.reason_of table.now (situation_in situation.now) event }
