@@ -86,7 +86,8 @@ pub record IsExplained (form : Form) (comments : Bool) (text : List ℕ) (verdic
   pub found : Verdict
   pub followed : HasFollowed (followed_text comments text) table found machine
   pub given : verdict ≡ verdict_given comments (given_parts text) found
-  pub explains : IsPage form comments (given_parts text) table (events_of machine.history) found page
+  pub explains :
+      IsPage form comments (given_parts text) table (events_of machine.history) found page
 
 -- The fault of a text is that of the text without comments, by the number of the line as it was
 -- given; or memory was refused.

@@ -102,7 +102,12 @@ pub struct Call<'a> {
 impl<'a> Plain<Call<'a>, Note, u64> for Say {
     ghost use Rattle.std.specs.Prelude.{None};
 
-    ghost ask = { λ c. record { by = c.by.now.value.nib.key; of = c.by.now.value.nib.key; entry = None; key = c.next.now.nib.key } };
+    ghost ask = { λ c. record {
+      by = c.by.now.value.nib.key;
+      of = c.by.now.value.nib.key;
+      entry = None;
+      key = c.next.now.nib.key;
+    } };
 
     ghost state = { λ _. None };
 }
@@ -123,7 +128,12 @@ pub struct Draft<'a, 'e> {
 impl<'a, 'e> Plain<Draft<'a, 'e>, Note, u64> for Say {
     ghost use Rattle.std.specs.Prelude.{None, Some};
 
-    ghost ask = { λ d. record { by = d.by.now.value.nib.key; of = d.of.now.value.nib.key; entry = Some d.entry.now; key = d.next.now.nib.key } };
+    ghost ask = { λ d. record {
+      by = d.by.now.value.nib.key;
+      of = d.of.now.value.nib.key;
+      entry = Some d.entry.now;
+      key = d.next.now.nib.key;
+    } };
 
     ghost state = { λ _. None };
 }

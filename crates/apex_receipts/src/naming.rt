@@ -32,7 +32,18 @@ impl Naming for Brand {
 
     ghost voice = { λ who. 0 };
 
-    ghost table = { record { profile = profiles.One; cores = 0; limit = 0; processes = []; semaphores = []; buffers = []; blackboards = []; event_flags = []; mutexes = []; init = [] } };
+    ghost table = { record {
+      profile = profiles.One;
+      cores = 0;
+      limit = 0;
+      processes = [];
+      semaphores = [];
+      buffers = [];
+      blackboards = [];
+      event_flags = [];
+      mutexes = [];
+      init = [];
+    } };
 
     ghost cell = { None };
 }

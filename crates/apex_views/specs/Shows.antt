@@ -147,7 +147,8 @@ pub data Shows (view : View) (table : tables.Table) (machine : Machine)
       → AppendsPrefixOfView held after view table machine departure
       → Shows view table machine departure held failed (Some Memory) after failed
   -- a write failed: a prefix of the text was written
-  unwritten : {after : Option (List ℕ)} → AppendsPrefixOfView held after view table machine departure
+  unwritten : {after : Option (List ℕ)}
+      → AppendsPrefixOfView held after view table machine departure
       → Shows view table machine departure held failed (Some Write) after (one_more failed)
 
 -- the fault of the showing, or else the one that is reported besides
@@ -261,7 +262,8 @@ pub data ShowsOutcome (view : View) (held : Option (List ℕ)) (failed : ℕ)
       (end_of (excerpt_shown view machine.history) (first_fault fault reported)) after failures
   -- no entry of the machine in the window of the picture has a column: nothing was written
   empty : (table : tables.Table) (machine : Machine) (reported : Option CliFault) (window : Window)
-      (fold : Bool) → {after : Option (List ℕ)} → IsEmptyIn view window fold machine.history → Keeps held after
+      (fold : Bool) → {after : Option (List ℕ)} → IsEmptyIn view window fold machine.history
+      → Keeps held after
       → ShowsOutcome view held failed (shows table machine reported)
       (fails (Empty (empty_in window fold machine))) after failed
   -- the table lacks a process that is to have a row: nothing was written
