@@ -5,7 +5,7 @@ use Rattle.apex_types.specs.declared.entries.Entry.{Entry}
 use Rattle.apex_machine.specs.declared.works.Work.{Work}
 use Rattle.apex_types.specs.declared.entries.Who.TheVariants.{Core}
 use Rattle.apex_receipts.specs.Receipts.{Spoken, told_full, with_entry}
-use Rattle.apex_cores.specs.Works.{AreDone, HaveBeenDone, IsDone, begun_in, works_begun}
+use Rattle.apex_cores.specs.Works.{AreDone, HaveBeenDone, DidWork, begun_in, works_begun}
 use Rattle.apex_cores.proofs.Running.{IsUnderway, none_yet, one_more}
 
 -- the worker is underway, and the gate did the works of its turns
@@ -37,10 +37,10 @@ works_more entries e work is =
     filter_map-append begun_in entries (e ∷ []) ∙ ap (λ (works : List Work). works_begun entries ++ works) one
 
 works_after : {T : Type 0} (does : T → ℕ → ℕ → ℕ → T → Type 0) (core : ℕ) (entries : List Entry) (e : Entry) (first middle last : T)
-    → AreDone does core (works_begun entries) first middle → IsDone does core (begun_in e) middle last
+    → AreDone does core (works_begun entries) first middle → DidWork does core (begun_in e) middle last
     → AreDone does core (works_begun (entries ++ e ∷ [])) first last
 works_after does core entries e first middle last done next = at (begun_in e) refl next where
-  at : (begun : Option Work) → begun_in e ≡ begun → IsDone does core begun middle last
+  at : (begun : Option Work) → begun_in e ≡ begun → DidWork does core begun middle last
       → AreDone does core (works_begun (entries ++ e ∷ [])) first last
   at None is same =
       subst (λ (works : List Work). AreDone does core works first last) (sym (works_same entries e is))
@@ -55,7 +55,7 @@ none_at_work does core s t = record { underway = none_yet s; works = refl }
 
 -- after a turn, and the work that it has begun
 pub works_on : {T : Type 0} (does : T → ℕ → ℕ → ℕ → T → Type 0) (core : ℕ) (before s : Spoken) (count : ℕ) (e : Entry) (first middle last : T)
-    → IsAtWork does core before count s first middle → IsDone does core (begun_in e) middle last
+    → IsAtWork does core before count s first middle → DidWork does core (begun_in e) middle last
     → IsAtWork does core before (count + 1) (with_entry s e) first last
 unfolding one_more
 works_on does core before s count e first middle last w next = record {
@@ -84,12 +84,3 @@ all_done_at_full does core before count after first last is w = record {
   made = record { who = w.underway.made.who; own = w.underway.made.own };
   works = w.works;
 }
-
--- before any turn there is no work
-pub nothing_done : {T : Type 0} (does : T → ℕ → ℕ → ℕ → T → Type 0) (core : ℕ) (s : Spoken) (t : T) → s.who ≡ Core core → HaveBeenDone does s s t t
-nothing_done does core s t is = all_done does core s 0 s t t is (none_at_work does core s t)
-
--- also if the history was full before the first one
-pub nothing_done_at_full : {T : Type 0} (does : T → ℕ → ℕ → ℕ → T → Type 0) (core : ℕ) (s : Spoken) (t : T) → s.who ≡ Core core
-    → HaveBeenDone does s (told_full s) t t
-nothing_done_at_full does core s t is = all_done_at_full does core s 0 s t t is (none_at_work does core s t)

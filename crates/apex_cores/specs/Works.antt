@@ -17,8 +17,8 @@ abbrev pub works_begun : List Entry → List Work
 works_begun entries = filter_map begun_in entries
 
 -- the gate did this work of the core, if there is one: the worker's token before, and afterwards
-abbrev pub IsDone : {T : Type 0} → (T → ℕ → ℕ → ℕ → T → Type 0) → ℕ → Option Work → T → T → Type 0
-IsDone does core begun before after =
+abbrev pub DidWork : {T : Type 0} → (T → ℕ → ℕ → ℕ → T → Type 0) → ℕ → Option Work → T → T → Type 0
+DidWork does core begun before after =
     MatchOption begun (before ≡ after) (λ work. does before core work.process work.amount after)
 
 -- the gate did these works of the core, each of them once, in their order, and no others

@@ -1,6 +1,6 @@
 //! The gate, at which the work of processes is done outside the lock.
 ghost use Rattle.std.specs.Prelude.{◌≡◌, ℕ};
-ghost use Rattle.apex_cores.specs.Works.{IsDone, begun_in};
+ghost use Rattle.apex_cores.specs.Works.{DidWork, begun_in};
 
 use apex_machine::Work;
 use apex_types::{Call, Caller, CoreId, Entry, ProcessId, Reply};
@@ -54,7 +54,7 @@ pub fn follow_turn<G: Gate>(
     core: CoreId,
     entry: &Entry,
 )
-    ensures { IsDone G.does core (begun_in entry.entry.now) token.old token.new }
+    ensures { DidWork G.does core (begun_in entry.entry.now) token.old token.new }
 {
     let Some(work) = begun(entry) else {
         if entry.reply == Reply::Idle {

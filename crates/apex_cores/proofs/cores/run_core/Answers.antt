@@ -1,6 +1,6 @@
 use Rattle.std.proofs.Common.{◌≡◌, arith, subst, sym}
 use Rattle.apex_types.specs.declared.entries.Entry.{Entry}
-use Rattle.apex_cores.specs.Works.{IsDone, begun_in}
+use Rattle.apex_cores.specs.Works.{DidWork, begun_in}
 use Rattle.apex_cores.proofs.Handing.{all_done, none_at_work, works_on}
 use Rattle.apex_cores.proofs.Running.{last_made, whole}
 use Rattle.apex_cores.proofs.cores.run_core.Goals as goal
@@ -9,7 +9,7 @@ pub loop-made-init : goal.loop-made-init
 loop-made-init g c =
     let ok = c.in-Ok.ensures.ok in
     let receipt = c.in-Ok.last in
-    let done = subst (λ (e : Entry). IsDone g.G.Gate.does c.core-core.result (begun_in e) c.args.token.now c.follow_turn.new.token)
+    let done = subst (λ (e : Entry). DidWork g.G.Gate.does c.core-core.result (begun_in e) c.args.token.now c.follow_turn.new.token)
     c.entry.ensures c.follow_turn.ensures in
     rw ok.0 (record {
       at_work = works_on g.G.Gate.does _ c.args.seat c.args.seat 0 receipt.entry c.args.token.now c.args.token.now _
@@ -23,7 +23,7 @@ loop-made-preserved g c =
     let ok = c.in-Ok-turn_into.ensures.ok in
     let seat = c.loop-made.seat in
     let receipt = c.turn_into.new.receipt in
-    let done = subst (λ (e : Entry). IsDone g.G.Gate.does c.core-core.result (begun_in e) c.loop-made.token c.follow_turn-in-loop-made.new.token)
+    let done = subst (λ (e : Entry). DidWork g.G.Gate.does c.core-core.result (begun_in e) c.loop-made.token c.follow_turn-in-loop-made.new.token)
     c.entry-in-loop-made.ensures c.follow_turn-in-loop-made.ensures in
     rw ok.0 (record {
       at_work = works_on g.G.Gate.does _ c.args.seat seat c.loop-made.made receipt.entry c.args.token.now _ _
