@@ -63,7 +63,7 @@ pub can_serve : {table : Table} {s : Situation} → CanGoOn table 1 s → CanSer
 can_serve can = record { stamps = many_stamps can; time = omega (arith, can.ticks); room = omega arith }
 
 -- a step of a list of steps is within it
-call_within : (steps : List Step) (k : ℕ) (call : Call) → call_in steps k ≡ Some call → k < length steps
+pub call_within : (steps : List Step) (k : ℕ) (call : Call) → call_in steps k ≡ Some call → k < length steps
 call_within steps k call is = found (slice_get steps k) refl where
   found : (o : Option Step) → slice_get steps k ≡ o → k < length steps
   found None none = absurd (none-some call (ap (option_map (λ (s : Step). s.call)) (sym none) ∙ is))
