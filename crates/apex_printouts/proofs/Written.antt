@@ -1,18 +1,11 @@
 -- Texts that are written one behind the other.
-use Rattle.std.proofs.Common.{◌≡◌, ◌∙◌, ℕ, ◌+◌, ◌<◌, List, [], ◌∷◌, ◌++◌, Option, flat_map, take, drop, length, get_or, ap, sym, subst, append-nil, append_assoc, take-append-drop}
+use Rattle.std.proofs.Common.{◌≡◌, ◌∙◌, ℕ, ◌+◌, ◌<◌, List, [], ◌∷◌, ◌++◌, Option, flat_map, take, drop, length, get_or, ap, sym, subst, append-nil, take-append-drop}
 use Rattle.std.proofs.KnownBytes.{Appends-trans}
 use Rattle.std.proofs.lemmas.Grind.{flat_map-append}
 use Rattle.std.proofs.lemmas.List.{take_more}
 use Rattle.std.specs.Io.KnownBytes.{Appends}
 use Rattle.apex_history.specs.Counted.{AppendsBeginning}
-use Rattle.apex_history.proofs.Passing.{beginning_longer}
-
--- a prefix that is written behind a text
-pub beginning_behind : (a b c : Option (List ℕ)) (text more : List ℕ) → Appends a b text → AppendsBeginning b c more
-    → AppendsBeginning a c (text ++ more)
-beginning_behind a b c text more first h =
-    let (done, rest, split, second) = h in
-    (text ++ done, rest, ap (λ l. text ++ l) split ∙ sym (append_assoc text done rest), Appends-trans a b c text done first second)
+use Rattle.apex_history.proofs.Passing.{beginning_behind, beginning_longer}
 
 module _ {X : Type 0} (line : X → List ℕ) (xs : List X) (i : ℕ) (x : X) (within : i < length xs) (here : x ≡ get_or xs i x) where
   lines_more : flat_map line (take (i + 1) xs) ≡ flat_map line (take i xs) ++ line x

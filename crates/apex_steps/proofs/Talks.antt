@@ -6,7 +6,7 @@ use Rattle.std.specs.Io.KnownBytes.{Appends, Consumes}
 use Rattle.apex_json.specs.declared.Form.{Form}
 use Rattle.apex_history.specs.Counted.{AppendsBeginning, one_more}
 use Rattle.apex_history.specs.Ports.{NoneFails, Ports}
-use Rattle.apex_history.proofs.Passing.{beginning_longer}
+use Rattle.apex_history.proofs.Passing.{beginning_behind, beginning_longer}
 use Rattle.apex_incoming.specs.Ahead.{IsAhead}
 use Rattle.apex_incoming.specs.Lines.{ended}
 use Rattle.apex_incoming.proofs.Coming.{ahead_more, or_nothing}
@@ -20,7 +20,6 @@ use Rattle.apex_steps.specs.declared.faults.StepFault.{StepFault}
 use Rattle.apex_steps.specs.declared.faults.StepFault.TheVariants.{Memory, NoSeparator, Read, Table, Write}
 use Rattle.apex_steps.proofs.Heard.{some_ahead}
 use Rattle.apex_steps.proofs.Said.{HasSaid, said_end, said_line, said_more, said_none}
-use Rattle.apex_steps.proofs.Written.{beginning_behind}
 
 -- what is said behind an answer
 abbrev behind : (form : Form) → Answered → Option (List ℕ) → List ℕ

@@ -1,5 +1,5 @@
 -- What was written when calls of a writer follow one another.
-use Rattle.std.proofs.Common.{◌≡◌, ℕ, List, [], ◌++◌, Option, Result, Ok, Err, OnErr, OnOk, refl, sym, append-nil}
+use Rattle.std.proofs.Common.{◌≡◌, ℕ, List, [], ◌++◌, Option, Result, Ok, Err, OnErr, OnOk, sym, append-nil}
 use Rattle.std.proofs.KnownBytes.{Appends-kept}
 use Rattle.std.specs.Io.KnownBytes.{Appends, Keeps}
 use Rattle.apex_history.specs.Counted.{AppendsBeginning}
@@ -20,11 +20,6 @@ pub flushes : {W E : Type 0} (drains : W → Result (Unit {0}) E → W → Type 
     → drains before r after → OnOk r (IsFlushed drains after)
 flushes drains before after (Ok tt) drained = (before, drained)
 flushes drains before after (Err e) drained = tt
-
--- a text was written, and a prefix of more behind it
-pub beginning_behind : (a b c : Option (List ℕ)) (text more : List ℕ) → Appends a b text → AppendsBeginning b c more
-    → AppendsBeginning a c (text ++ more)
-beginning_behind a b c text more first begun = beginning_after a b c (text ++ more) more (text, refl, first) begun
 
 -- all was written, and nothing is held
 pub passes_all_by : {T E : Type 0} (r : Result T E) (a b : Option (List ℕ)) (text held : List ℕ) → held ≡ []

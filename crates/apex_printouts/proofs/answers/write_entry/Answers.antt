@@ -2,8 +2,7 @@
 use Rattle.std.proofs.KnownBytes.{Appends-trans}
 use Rattle.std.proofs.lemmas.Result.{on_err_weaker, on_ok_weaker}
 use Rattle.apex_history.proofs.Outcomes.{OnErr-always}
-use Rattle.apex_history.proofs.Passing.{beginning_longer}
-use Rattle.apex_printouts.proofs.Written.{beginning_behind}
+use Rattle.apex_history.proofs.Passing.{beginning_behind, beginning_longer}
 use Rattle.apex_printouts.proofs.answers.write_entry.Goals as goal
 
 pub returns-in_err-write_all-clause-err : goal.returns-in_err-write_all-clause-err

@@ -3,9 +3,8 @@ use Rattle.std.proofs.Common.{◌≡◌, rules}
 use Rattle.std.proofs.KnownBytes.{Appends-trans}
 use Rattle.std.proofs.lemmas.Result.{on_err_weaker, on_ok_weaker}
 use Rattle.apex_history.proofs.Outcomes.{OnErr-always}
-use Rattle.apex_history.proofs.Passing.{beginning_longer}
+use Rattle.apex_history.proofs.Passing.{beginning_behind, beginning_longer}
 use Rattle.apex_answers.specs.Texts.{found_head}
-use Rattle.apex_printouts.proofs.Written.{beginning_behind}
 use Rattle.apex_printouts.proofs.answers.write_found.Goals as goal
 
 pub returns-in_err-write_all-clause-err : goal.returns-in_err-write_all-clause-err
