@@ -1,5 +1,5 @@
 -- Paced situations that are the same do the same.
-use Rattle.std.proofs.Common.{◌≡◌, ℕ, zero, suc, ◌+◌, ◌-◌, Bool, Option, None, Some, refl, sym, ◌∙◌, ap, not, is_some, option_map, if◌then◌else◌}
+use Rattle.std.proofs.Common.{◌≡◌, ℕ, zero, suc, ◌+◌, ◌-◌, Bool, Option, None, Some, refl, ◌∙◌, ap, not, is_some, option_map, if◌then◌else◌}
 use Rattle.std.proofs.Math.Path.{fun_ext}
 use Rattle.apex_types.specs.declared.entries.Event.TheVariants.{Turn, Tick}
 use Rattle.apex_types.specs.declared.calls.Call.{Call}
@@ -12,7 +12,7 @@ use Rattle.apex_machine.specs.services.Callers.{is_by_init}
 use Rattle.apex_machine.specs.table.Table.{Table}
 use Rattle.apex_pace.specs.Pace.{Paced, all_cores, all_ticks, first_work_end, is_idle, is_quiet, is_settled, is_starting, is_within, least_ticks, may_turn, next_moment, next_tick, paced_step, settled_tick, ticks_to, turns_after, work_end, worked_after}
 use Rattle.apex_alike.specs.Closed.{IsSameSituation}
-use Rattle.apex_alike.proofs.SingleTicks.{same_back, same_then}
+use Rattle.apex_alike.proofs.SingleTicks.{same_then}
 use Rattle.apex_choices.specs.Counts.{IsSamePaced}
 use Rattle.apex_choices.specs.Choices.{event_of}
 use Rattle.apex_choices.specs.Terms.{Event, OpenWork, Pace}
@@ -46,13 +46,6 @@ same_from one other same = record {
   objects = ap (λ (s : Situation). s.objects) same;
   works = λ core. ap (λ (s : Situation). s.works core) same;
   made = ap (λ (s : Situation). s.made) same;
-}
-
-pub paced_back : {one other : Paced} → IsSamePaced one other → IsSamePaced other one
-paced_back same = record {
-  situation = same_back same.situation;
-  turns = λ core. sym (same.turns core);
-  worked = λ core. sym (same.worked core);
 }
 
 pub paced_then : {one other third : Paced} → IsSamePaced one other → IsSamePaced other third → IsSamePaced one third

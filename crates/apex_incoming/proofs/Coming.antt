@@ -1,12 +1,9 @@
 -- The part of a text that is still to come.
-use Rattle.std.proofs.Common.{◌≡◌, ◌∙◌, ℕ, ◌+◌, ◌-◌, List, [], ◌++◌, Option, None, Some, sym, refl, ap, subst, length, take, drop, length-drop, append_assoc, take-append-drop}
+use Rattle.std.proofs.Common.{◌≡◌, ◌∙◌, ℕ, ◌+◌, ◌-◌, List, [], ◌++◌, Option, None, Some, sym, refl, ap, subst, take, drop, append_assoc, take-append-drop}
 use Rattle.std.proofs.KnownBytes.{Consumes-kept, Consumes-trans}
 use Rattle.std.specs.Io.KnownBytes.{Consumes, IsAtEnd, Keeps, prepend_known}
 use Rattle.apex_incoming.specs.Ahead.{IsAhead, IsFirstLine}
 use Rattle.apex_incoming.specs.Lines.{ended}
-
-pub length_dropped : (n : ℕ) (xs : List ℕ) → length (drop n xs) ≡ length xs - n
-length_dropped n xs = length-drop n xs
 
 -- the bytes that are left, or none if they are not known
 abbrev pub or_nothing : Option (List ℕ) → List ℕ

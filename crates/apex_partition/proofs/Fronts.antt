@@ -1,9 +1,7 @@
 -- The front that a partition shows.
-use Rattle.std.proofs.Common.{◌≡◌, ℕ, zero, suc, ◌<◌, ◌≤◌, All, List, [], ◌∷◌, ◌++◌, Option, None, Some, IfSome, MatchOption, ap, subst, sym, ◌∙◌, arith}
+use Rattle.std.proofs.Common.{◌≡◌, ℕ, zero, suc, ◌<◌, ◌≤◌, All, List, [], ◌∷◌, ◌++◌, Option, None, Some, IfSome, MatchOption, subst, arith}
 use Rattle.apex_types.specs.declared.limits.TheConstants.{MOST_PROCESSES}
-use Rattle.apex_machine.specs.Machine.{Machine, events_of, replay}
-use Rattle.apex_machine.specs.table.Table.{Table}
-use Rattle.apex_board.specs.Fronts.{Front, IsFrontAfter, IsSmallId, front_of}
+use Rattle.apex_board.specs.Fronts.{IsSmallId}
 
 pub all_more : {A : Type 0} (Q : A → Type 0) (xs : List A) (x : A) → All Q xs → Q x → All Q (xs ++ x ∷ [])
 all_more Q [] x all here zero d below = here
@@ -16,15 +14,6 @@ all_more Q (y ∷ ys) x all here (suc k) d below =
 pub small_choice : (processes : ℕ) (running : Option ℕ) → IfSome running (λ p. p < processes) → processes ≤ MOST_PROCESSES → IfSome running IsSmallId
 small_choice processes None known few = tt
 small_choice processes (Some p) known few = omega (arith, known, few)
-
--- the front of a machine that its own history replays is that of the history's last state
-pub front_after : (table : Table) (machine : Machine) (front : Front) → front ≡ front_of table machine → replay table machine.history ≡ machine
-    → IsFrontAfter table machine.history front
-front_after table machine front shown replays = record {
-  events = events_of machine.history;
-  told = ap (λ (m : Machine). m.history) replays;
-  shown = shown ∙ ap (front_of table) (sym replays);
-}
 
 -- a fact of an option that has a value
 pub some_case : {A : Type 0} (o : Option A) (x : A) (N : Type 0) (Q : A → Type 0) → o ≡ Some x → MatchOption o N Q → Q x

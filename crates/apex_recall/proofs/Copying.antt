@@ -1,8 +1,7 @@
 -- Objects, copied one after the other.
-use Rattle.std.proofs.Common.{◌≡◌, ℕ, ◌+◌, ◌<◌, ◌≤◌, Bool, List, [], length, Option, get_or, set, refl, sym, ◌∙◌, ap, subst, arith, inl, inr}
-use Rattle.std.proofs.lemmas.Bool.{cases_eq, cases_lt, le-ltb, lt-ltb}
-use Rattle.std.proofs.lemmas.List.{ext_get_or, get_or_default, get_or-set_other, get_or-set_same, length-set}
-use Rattle.apex_forms.proofs.Forming.{before_more}
+use Rattle.std.proofs.Common.{◌≡◌, ℕ, ◌+◌, ◌<◌, ◌≤◌, List, [], length, Option, get_or, refl, sym, ◌∙◌, ap, subst, arith, inl, inr}
+use Rattle.std.proofs.lemmas.Bool.{cases_lt, le-ltb, lt-ltb}
+use Rattle.std.proofs.lemmas.List.{ext_get_or}
 use Rattle.apex_machine.specs.Deeds.{Objects}
 use Rattle.apex_machine.specs.Machine.{objects_after}
 use Rattle.apex_machine.specs.services.BufferServices.{BufferObject, buffer_kind}
@@ -10,7 +9,7 @@ use Rattle.apex_machine.specs.table.Table.{Table}
 use Rattle.apex_recall.proofs.Places.{length-processes}
 use Rattle.apex_recall.specs.Copied.{AreOfKinds, AreSameBuffers, works_before}
 use Rattle.apex_recall.specs.Restored.{objects_in, records_from, works_in}
-use Rattle.apex_recall.specs.Terms.{Message, OpenWork}
+use Rattle.apex_recall.specs.Terms.{OpenWork}
 use Rattle.apex_types.proofs.Places.{get_or-map_places, length-map_places}
 use Rattle.apex_types.specs.Places.{map_places}
 
@@ -43,44 +42,6 @@ pub record IsCopying (old others now : List BufferObject) (place : ℕ) : Type 0
   pub many : length now ≡ length old
   pub done : (p : ℕ) (b : BufferObject) → p < place → get_or now p b ≡ get_or others p b
   pub left : (p : ℕ) (b : BufferObject) → place ≤ p → get_or now p b ≡ get_or old p b
-
-pub copying_begins : (old others : List BufferObject) → IsCopying old others old 0
-copying_begins old others = record {
-  many = refl;
-  done = λ p b none. absurd (omega (arith, none));
-  left = λ p b all. refl;
-}
-
--- a buffer with the values of another one that is as large
-same_buffer : (b other : BufferObject) (created : Bool) (messages : List Message) → b.longest ≡ other.longest → b.capacity ≡ other.capacity
-    → created ≡ other.created → messages ≡ other.messages → record b { created = created; messages = messages } ≡ other
-same_buffer b other created messages longest capacity made held =
-    ap (λ (n : ℕ). record { longest = n; capacity = b.capacity; created = created; messages = messages }) longest
-    ∙ ap (λ (n : ℕ). record { longest = other.longest; capacity = n; created = created; messages = messages }) capacity
-    ∙ ap (λ (c : Bool). record { longest = other.longest; capacity = other.capacity; created = c; messages = messages }) made
-    ∙ ap (λ (m : List Message). record { longest = other.longest; capacity = other.capacity; created = other.created; messages = m }) held
-
--- one buffer more
-pub copying_more : (old others now : List BufferObject) (place : ℕ) → AreSameBuffers old others → IsCopying old others now place
-    → place < length now → (b new : BufferObject) (created : Bool) (messages : List Message)
-    → new ≡ record (get_or now place b) { created = created; messages = messages }
-    → created ≡ (get_or others place b).created → messages ≡ (get_or others place b).messages
-    → IsCopying old others (set now place new) (place + 1)
-copying_more old others now place same copying within b new created messages is made held =
-    let in_old : place < length old = omega (arith, within, copying.many) in
-    let kept : get_or now place b ≡ get_or old place b = copying.left place b (omega arith) in
-    let copied : new ≡ get_or others place b =
-    is ∙ same_buffer (get_or now place b) (get_or others place b) created messages
-    (ap (λ (x : BufferObject). x.longest) kept ∙ same.longest place b in_old)
-    (ap (λ (x : BufferObject). x.capacity) kept ∙ same.capacity place b in_old) made held in
-    record {
-      many = length-set now place new ∙ copying.many;
-      done = λ p d below. elim (cases_eq p place) [
-        | inl here ↦ rw here (get_or-set_same now place new d within ∙ copied ∙ get_or_default others place b d (omega (arith, in_old, same.many)))
-        | inr apart ↦ get_or-set_other now place p new d apart ∙ copying.done p d (before_more p place below apart)
-      ];
-      left = λ p d above. get_or-set_other now place p new d (λ e. omega (arith, e, above)) ∙ copying.left p d (omega (arith, above));
-    }
 
 pub copying_ends : (old others now : List BufferObject) (place : ℕ) → AreSameBuffers old others → IsCopying old others now place
     → length now ≤ place → now ≡ others

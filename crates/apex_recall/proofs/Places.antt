@@ -102,10 +102,6 @@ filled_at zero k d = refl
 filled_at (suc n) zero d = refl
 filled_at (suc n) (suc k) d = filled_at n k d
 
--- nothing is below 0
-pub below_none : {X : Type 0} (k : ℕ) (v d : X) → d ≡ cond (nat_lt k 0) v d
-below_none k v d = grind (arith, nat_tests)
-
 -- each of these things as its words say
 abbrev pub as_stored : {X : Type 0} → (X → List ℕ → X) → List ℕ → ℕ → ℕ → ℕ → X → X
 as_stored restored words from many k p = restored p (part words from k many)

@@ -167,16 +167,6 @@ one_in : (question : Question) (facts : List Fact) (d : Deed) → has_fact (with
 one_in question facts d =
     same_any (has_one (with_facts question facts) (shown_of d)) (has_one question (shown_of d)) (same_one question facts (shown_of d)) facts
 
-one_alone : (question : Question) (fact : Fact) (d : Deed) → has_fact (with_facts question (fact ∷ [])) d ≡ true → has_one question (shown_of d) fact ≡ true
-one_alone question fact d has =
-    let passes : list_any (has_one question (shown_of d)) (fact ∷ []) ≡ true = sym (one_in question (fact ∷ []) d) ∙ has in
-    let found = one_passes (has_one question (shown_of d)) (fact ∷ []) passes in
-    by_one found.0 found.1 found.2
-  where
-    by_one : (other : Fact) → IsOneOf other (fact ∷ []) → has_one question (shown_of d) other ≡ true → has_one question (shown_of d) fact ≡ true
-    by_one other (inl same) holds = subst (λ (f : Fact). has_one question (shown_of d) f ≡ true) same holds
-    by_one other (inr none) holds = absurd none
-
 module _ (system : Searched) where
   abbrev question : Question
   question = system.question
@@ -272,15 +262,6 @@ pub record IsCounting (system now : Searched) (search : Search Workplace) (found
   pub each : AreFindings system found
   pub within : (fact : Fact) → IsOneOf fact now.question.facts → IsOneOf fact system.question.facts
   pub whole : (fact : Fact) → IsOneOf fact system.question.facts → IsOneOf fact (facts_of found) ⊎ IsOneOf fact now.question.facts
-
-pub counting_begins : (system : Searched) (search : Search Workplace) → IsSearchOf system search → IsCounting system system search []
-counting_begins system search of = record {
-  same = refl;
-  of = of;
-  each = tt;
-  within = λ fact one. one;
-  whole = λ fact one. inr one;
-}
 
 pub counting_more : (system now next : Searched) (search search' : Search Workplace) (found found' : List Finding) (finding : Finding)
     → IsCounting system now search found

@@ -1,18 +1,15 @@
 -- The fact to which a path that was found leads.
-use Rattle.std.proofs.Common.{◌≡◌, ℕ, ◌+◌, ◌<◌, ◌≤◌, Bool, true, false, List, [], ◌∷◌, length, Some, Result, Ok, Err, inl, inr, refl, sym, ◌∙◌, ap, subst, arith}
-use Rattle.std.specs.Prelude.{◌↔◌, IfOk, IsTrue}
+use Rattle.std.proofs.Common.{◌≡◌, ℕ, ◌+◌, ◌<◌, ◌≤◌, Bool, true, false, List, [], ◌∷◌, length, Some, inl, inr, sym, ◌∙◌, ap, subst, arith}
+use Rattle.std.specs.Prelude.{◌↔◌, IsTrue}
 use Rattle.std.proofs.lemmas.Bool.{cases_lt}
 use Rattle.std.proofs.lemmas.Option.{same_Some, slice_get_within}
 use Rattle.std.specs.List.{slice_get}
-use Rattle.apex_explore.specs.Answers.{Says}
 use Rattle.apex_explore.specs.Paths.{IsHit}
-use Rattle.apex_explore.specs.declared.answers.Answer.{Answer}
-use Rattle.apex_explore.specs.declared.answers.Answer.TheVariants.{Found, Closed, Full}
 use Rattle.apex_laws.specs.Laws.{OfEachTable}
 use Rattle.apex_machine.specs.table.Table.{IsLawful}
 use Rattle.apex_pace.specs.Laws.{IsPace}
 use Rattle.apex_search.specs.Answers.{IsShortestSchedule}
-use Rattle.apex_search.specs.Census.{FoundHits, IsOneOf, alone, asking, makes}
+use Rattle.apex_search.specs.Census.{IsOneOf, alone, asking, makes}
 use Rattle.apex_recall.specs.Laws.{FormsHaveWords, FormsReach, WordsAreExact}
 use Rattle.apex_search.specs.Laws.{FormsStandFor}
 use Rattle.apex_recall.specs.Reached.{IsReached}
@@ -27,9 +24,6 @@ pub record IsStriking (system now : Searched) (path : List ℕ) (tried : ℕ) : 
   pub same : asking now [] ≡ asking system []
   pub none : (place : ℕ) (fact : Fact) → place < tried → slice_get system.question.facts place ≡ Some fact
       → IsHit (makes (alone system fact)) (search_start system) path → ⊥
-
-pub strike_begins : (system : Searched) (path : List ℕ) → IsStriking system system path 0
-strike_begins system path = record { same = refl; none = λ place fact below is hit. absurd (omega arith) }
 
 -- a fact is tried
 module _ (system now next : Searched) (path : List ℕ) (tried : ℕ) (fact : Fact) (one : List Fact) (answer : Bool)
@@ -81,11 +75,3 @@ pub strike_shortest : (system : Searched) → IsPace system.pace → IsLawful sy
 strike_shortest system is_pace lawful bounds alike exact words fact asked path shortest hit =
     let found = hit_is (alone system fact) (IsReached system.table) (stand system is_pace lawful bounds alike exact words) path hit in
     shortest_alone system fact asked path shortest found.leads found.many
-
--- what a search says of a path that it finds
-pub found_hits : (system : Searched) {E : Type 0} (result : Result Answer E) (room : ℕ)
-    → IfOk result (Says (makes system) (search_start system) room) → IfOk result (FoundHits system)
-found_hits system (Ok (Found path)) room says = says.0
-found_hits system (Ok (Closed states)) room says = tt
-found_hits system (Ok (Full depth)) room says = tt
-found_hits system (Err e) room says = tt
