@@ -2,12 +2,9 @@
 ghost use Rattle.std.specs.Prelude.{◌≡◌, ◌<◌, length, IfSome};
 ghost use Rattle.apex_board.specs.Fronts.{FitsWords, Front as FrontValue, IsSmallId, byte_of, core_byte, words_of};
 
-use apex_types::{MOST_CORES, ProcessId};
+use apex_types::{MOST_CORE_PLACES, ProcessId};
 use arrayvec::ArrayVec;
 use std::marker::Model;
-
-/// The most cores whose processes a front shows.
-const CORES: usize = MOST_CORES as usize;
 
 /// The state of a partition between two events, as a reader sees it (this profile).
 #[derive(Drop)]
@@ -17,7 +14,7 @@ pub struct Front {
     /// The time in ticks.
     pub now: u64,
     /// The process that each core runs, from core 0 on.
-    pub chosen: ArrayVec<Option<ProcessId>, CORES>,
+    pub chosen: ArrayVec<Option<ProcessId>, MOST_CORE_PLACES>,
 }
 
 impl Model for Front {

@@ -3,16 +3,14 @@ ghost use Rattle.std.specs.Prelude.{◌≡◌, ℕ, ◌+◌, ◌<◌, ◌≤◌,
 ghost use Rattle.apex_types.specs.declared.limits.TheConstants.{MOST_CORES};
 ghost use Rattle.apex_choices.specs.Counts.{count_at};
 
-use apex_types::{CoreId, MOST_CORES};
+use apex_types::{CoreId, MOST_CORE_PLACES};
 use std::marker::Model;
-
-const CORES: usize = MOST_CORES as usize;
 
 /// Of each core, its turns since the last tick, and the ticks since it began its open work.
 #[derive(Drop)]
 pub struct Counts {
-    turns: [u64; CORES],
-    worked: [u64; CORES],
+    turns: [u64; MOST_CORE_PLACES],
+    worked: [u64; MOST_CORE_PLACES],
 }
 
 impl Model for Counts {
@@ -34,8 +32,8 @@ impl Counts {
         ensures worked { (core : ℕ) → count_at result.worked core ≡ 0 }
     {
         Counts {
-            turns: [0; CORES],
-            worked: [0; CORES],
+            turns: [0; MOST_CORE_PLACES],
+            worked: [0; MOST_CORE_PLACES],
         }
     }
 
@@ -96,8 +94,8 @@ impl Counts {
         ensures worked { (core : ℕ) → core < MOST_CORES → count_at self.new.worked core
             ≡ count_at self.old.worked core + ticks }
     {
-        self.turns = [0; CORES];
-        for place in 0..CORES {
+        self.turns = [0; MOST_CORE_PLACES];
+        for place in 0..MOST_CORE_PLACES {
             self.worked[place] += ticks;
         }
     }

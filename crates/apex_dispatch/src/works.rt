@@ -6,15 +6,13 @@ ghost use Rattle.apex_dispatch.specs.Works.{broken, work_at};
 
 use apex_machine::{OpenWork, Work};
 use apex_store::Store;
-use apex_types::{CoreId, MOST_CORES};
+use apex_types::{CoreId, MOST_CORE_PLACES};
 use std::marker::Model;
-
-const CORES: usize = MOST_CORES as usize;
 
 /// The work that each core has begun and not ended.
 #[derive(Drop)]
 pub struct Works {
-    of_core: [Option<OpenWork>; CORES],
+    of_core: [Option<OpenWork>; MOST_CORE_PLACES],
     /// Whether any core has begun work so far. If none has, no event looks at the cores' work.
     has_begun: bool,
 }
@@ -39,13 +37,13 @@ impl Works {
         ensures { (core : ℕ) → work_at result core ≡ None }
     {
         Works {
-            of_core: [None; CORES],
+            of_core: [None; MOST_CORE_PLACES],
             has_begun: false,
         }
     }
 
     /// The work of each core, by its number.
-    pub fn of(of_core: [Option<OpenWork>; CORES]) -> Works
+    pub fn of(of_core: [Option<OpenWork>; MOST_CORE_PLACES]) -> Works
         ensures { result ≡ of_core }
     {
         let has_begun = of_core.iter().any(|begun| begun.is_some());

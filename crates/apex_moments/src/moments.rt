@@ -11,12 +11,9 @@ use apex_configs::Table;
 use apex_dispatch::Situation;
 use apex_machine::{Holdings, Record, Wait};
 use apex_store::Store;
-use apex_types::{CoreId, MOST_CORES, MOST_PROCESSES, Mode, ProcessId, State};
+use apex_types::{CoreId, MOST_CORE_PLACES, MOST_PROCESSES, Mode, ProcessId, State};
 use arrayvec::ArrayVec;
 use std::marker::Model;
-
-/// The most cores of a partition.
-pub const CORES: usize = MOST_CORES as usize;
 
 /// A process after an entry, as a picture shows it.
 #[derive(Clone, Copy)]
@@ -46,7 +43,7 @@ impl Default for Cell {
 #[derive(Drop)]
 pub struct Moment {
     cells: ArrayVec<Cell, MOST_PROCESSES>,
-    running: ArrayVec<Option<ProcessId>, CORES>,
+    running: ArrayVec<Option<ProcessId>, MOST_CORE_PLACES>,
     counts: Counts,
 }
 
@@ -99,11 +96,11 @@ pub fn state_of(
 }
 
 /// The process that each core runs.
-pub fn running_of<S: Store>(store: &S) -> ArrayVec<Option<ProcessId>, CORES>
+pub fn running_of<S: Store>(store: &S) -> ArrayVec<Option<ProcessId>, MOST_CORE_PLACES>
     ensures { result.items ≡ running_in (S.roster store.now) }
 {
     let mut running = ArrayVec::new();
-    for core in 0..CORES as u8 {
+    for core in 0..MOST_CORE_PLACES as u8 {
         running.push(store.chosen(CoreId::new(core)));
     }
     running

@@ -6,8 +6,9 @@ ghost use Rattle.apex_types.specs.declared.limits.TheConstants.{MOST_CORES, MOST
 ghost use Rattle.apex_pictures.specs.Rows.{HasRows, bound_core, core_by, core_of, cores_of, headings_at, heading_at, is_chosen, row_at, rows_at, rows_before, rows_chosen, rows_of_core, selection_of};
 
 use apex_configs::Table;
-use apex_moments::CORES;
-use apex_types::{Call, MOST_INIT_STEPS, MOST_PROCESSES, ObjectCall, ProcessId, ProcessService};
+use apex_types::{
+    Call, MOST_CORE_PLACES, MOST_INIT_STEPS, MOST_PROCESSES, ObjectCall, ProcessId, ProcessService,
+};
 use arrayvec::ArrayVec;
 
 /// The distance from one row to the next, in pixels.
@@ -35,7 +36,7 @@ pub struct Rows {
     /// The place of each process's row.
     pub(crate) places: ArrayVec<u32, MOST_PROCESSES>,
     /// The place of each core's heading.
-    pub(crate) headings: ArrayVec<u32, CORES>,
+    pub(crate) headings: ArrayVec<u32, MOST_CORE_PLACES>,
 }
 
 /// Whether a process has a row: it is one of these, or none are named.
@@ -182,7 +183,7 @@ fn heading_at(cores: &[u8], top: u32, core: u8) -> u32
 }
 
 /// The places of the headings of `count` cores, by the cores of the processes.
-fn headings_at(cores: &[u8], top: u32, count: u8) -> ArrayVec<u32, CORES>
+fn headings_at(cores: &[u8], top: u32, count: u8) -> ArrayVec<u32, MOST_CORE_PLACES>
     requires few { length cores.now ≤ MOST_PROCESSES }
     requires cores { count ≤ MOST_CORES }
     requires range { top ≤ 30000 }

@@ -6,7 +6,7 @@ ghost use Rattle.apex_dispatch.specs.Works.{work_at};
 ghost use Rattle.apex_recall.specs.Copied.{AreOfKinds, AreSameBuffers, works_before};
 ghost use Rattle.apex_recall.specs.Restored.{IsOfTable, IsStored, paced_from};
 
-use crate::restored::{CORES, first_stamp};
+use crate::restored::first_stamp;
 use crate::values::mode_in;
 use apex_buffer::Buffer;
 use apex_choices::{Counts, PacedSituation};
@@ -14,7 +14,7 @@ use apex_configs::Table;
 use apex_dispatch::{Situation, Works};
 use apex_services::Objects;
 use apex_store::{Object, Store};
-use apex_types::{CoreId, MOST_CORES, MOST_MESSAGES, Message};
+use apex_types::{CoreId, MOST_CORE_PLACES, MOST_CORES, MOST_MESSAGES, Message};
 use arrayvec::ArrayVec;
 
 /// The messages of the buffer.
@@ -72,7 +72,7 @@ fn works_of(paced: &PacedSituation) -> Works
     ensures { (core : ℕ) → work_at result core
         ≡ works_before MOST_CORES (paced_in paced.now).situation.works core }
 {
-    let mut of_core = [None; CORES];
+    let mut of_core = [None; MOST_CORE_PLACES];
     for number in 0..MOST_CORES as u8 {
         of_core[usize::from(number)] = paced.work(CoreId::new(number));
     }

@@ -24,9 +24,7 @@ use apex_forms::{
 use apex_machine::{OpenWork, Work};
 use apex_services::{Objects, ProcessObject};
 use apex_store::{PlainStore, Store};
-use apex_types::{CoreId, MOST_CORES, ProcessId, Span};
-
-pub(crate) const CORES: usize = MOST_CORES as usize;
+use apex_types::{CoreId, MOST_CORE_PLACES, ProcessId, Span};
 
 /// The words of the place among others of this length, behind `from`.
 fn part(words: &[u64], from: usize, place: usize, many: usize) -> &[u64]
@@ -74,7 +72,7 @@ fn works_in(cores: u8, words: &[u64]) -> Works
     requires words { AreCoreWords cores words.now }
     ensures { (core : ℕ) → work_at result core ≡ works_in cores words.now core }
 {
-    let mut of_core = [None; CORES];
+    let mut of_core = [None; MOST_CORE_PLACES];
     for number in 0..cores {
         let place = usize::from(number);
         of_core[place] = open_in(part(words, HEAD_WORDS, place, CORE_WORDS));

@@ -2,16 +2,14 @@
 ghost use Rattle.std.specs.Prelude.{◌≡◌, ℕ, ◌+◌, ◌<◌, ◌≤◌, ◌^◌, ◌==◌, ◌&&◌, if◌then◌else◌};
 ghost use Rattle.apex_rounds.specs.Rounds.{count_at};
 
-use apex_types::{CoreId, MOST_CORES};
+use apex_types::{CoreId, MOST_CORE_PLACES};
 use std::marker::Model;
-
-const CORES: usize = MOST_CORES as usize;
 
 /// Of each core, its turns since the last tick, and the instant of its last turn.
 #[derive(Drop)]
 pub(crate) struct Counts {
-    turns: [u32; CORES],
-    since: [u64; CORES],
+    turns: [u32; MOST_CORE_PLACES],
+    since: [u64; MOST_CORE_PLACES],
 }
 
 impl Model for Counts {
@@ -33,8 +31,8 @@ impl Counts {
         ensures since { (core : ℕ) → count_at result.since core ≡ 0 }
     {
         Counts {
-            turns: [0; CORES],
-            since: [0; CORES],
+            turns: [0; MOST_CORE_PLACES],
+            since: [0; MOST_CORE_PLACES],
         }
     }
 
@@ -73,6 +71,6 @@ impl Counts {
         ensures turns { (core : ℕ) → count_at self.new.turns core ≡ 0 }
         ensures since { self.new.since ≡ self.old.since }
     {
-        self.turns = [0; CORES];
+        self.turns = [0; MOST_CORE_PLACES];
     }
 }

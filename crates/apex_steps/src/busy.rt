@@ -5,11 +5,8 @@ ghost use Rattle.apex_steps.specs.Texts.{busy_cores, has_something_to_do, runnin
 
 use apex_dispatch::Kernel;
 use apex_store::Store;
-use apex_types::{CoreId, MOST_CORES, ProcessId};
+use apex_types::{CoreId, MOST_CORE_PLACES, ProcessId};
 use arrayvec::ArrayVec;
-
-/// The most cores of a partition.
-const CORES: usize = MOST_CORES as usize;
 
 /// Whether work is open, an init step is due or a process runs.
 fn any_of(works: bool, is_due: bool, runs: bool) -> bool
@@ -32,7 +29,7 @@ fn has_something_to_do<S: Store>(kernel: &Kernel<S>, core: CoreId) -> bool
 }
 
 /// The numbers of the cores that have something to do.
-pub(crate) fn busy_cores<S: Store>(kernel: &Kernel<S>) -> ArrayVec<u8, CORES>
+pub(crate) fn busy_cores<S: Store>(kernel: &Kernel<S>) -> ArrayVec<u8, MOST_CORE_PLACES>
     ensures { result.items ≡ busy_cores kernel.now.table kernel.now.machine }
 {
     kernel.table().lawful();
@@ -46,7 +43,9 @@ pub(crate) fn busy_cores<S: Store>(kernel: &Kernel<S>) -> ArrayVec<u8, CORES>
 }
 
 /// The process that each core runs.
-pub(crate) fn running_in<S: Store>(kernel: &Kernel<S>) -> ArrayVec<Option<ProcessId>, CORES>
+pub(crate) fn running_in<S: Store>(
+    kernel: &Kernel<S>,
+) -> ArrayVec<Option<ProcessId>, MOST_CORE_PLACES>
     ensures { result.items ≡ running_in kernel.now.table kernel.now.machine }
 {
     kernel.table().lawful();

@@ -31,12 +31,12 @@ use apex_configs::Table;
 use apex_dispatch::Situation;
 use apex_history::{code_word, deadline_word};
 use apex_json::MOST_ESCAPE;
-use apex_moments::{
-    CORES, Part, id_part, is_same_process, profile_number, put, put_all, running_at,
-};
+use apex_moments::{Part, id_part, profile_number, put, put_all, running_at};
 use apex_names::process_name;
 use apex_store::Store;
-use apex_types::{CoreId, LentEntry, MOST_NAME, MOST_NOTICES, MutexId, Notice, ProcessId};
+use apex_types::{
+    CoreId, LentEntry, MOST_CORE_PLACES, MOST_NAME, MOST_NOTICES, MutexId, Notice, ProcessId,
+};
 use std::alloc::AllocError;
 
 /// The version of the programs.
@@ -439,7 +439,7 @@ pub(crate) fn add_runs<S: Store>(
         }
     }
     // The table has no core from here on.
-    for place in table.cores()..CORES as u8 {
+    for place in table.cores()..MOST_CORE_PLACES as u8 {
         running[usize::from(place)] = store.chosen(CoreId::new(place));
     }
 }

@@ -21,10 +21,12 @@ use crate::trace::{add_call, add_notices, add_processes, add_runs};
 use apex_configs::Table;
 use apex_dispatch::Situation;
 use apex_machine::Record;
-use apex_moments::{CORES, Counts, counts_of, is_process, running_at, running_of, state_of};
+use apex_moments::{Counts, counts_of, is_process, running_at, running_of, state_of};
 use apex_services::Objects;
 use apex_store::Store;
-use apex_types::{CoreId, LentEntry, MOST_CORES, MOST_PROCESSES, ProcessId, State};
+use apex_types::{
+    CoreId, LentEntry, MOST_CORE_PLACES, MOST_CORES, MOST_PROCESSES, ProcessId, State,
+};
 use arrayvec::ArrayVec;
 use std::marker::Model;
 
@@ -35,7 +37,7 @@ use std::marker::Model;
 #[derive(Drop)]
 pub struct Tracks {
     tracks: ArrayVec<Being, MOST_PROCESSES>,
-    running: ArrayVec<Option<ProcessId>, CORES>,
+    running: ArrayVec<Option<ProcessId>, MOST_CORE_PLACES>,
     counts: Counts,
     said: Said,
     /// The time after the latest column.

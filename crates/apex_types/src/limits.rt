@@ -1,13 +1,16 @@
 //! The limits of this profile. The code takes each limit from here by its name, and so do the
 //! definitions and the clauses.
 ghost use Rattle.std.specs.Prelude.{◌≡◌};
-ghost use Rattle.apex_types.specs.declared.limits.TheConstants.{MOST_PROFILE, MOST_CORES, MOST_PROCESSES, MOST_PROCESSES_IN_ONE, MOST_OBJECTS, MOST_NAME, MOST_STEPS, MOST_INIT_STEPS, MOST_MESSAGE, MOST_LITERAL, MOST_MESSAGES, MOST_ENTRIES, USUAL_ENTRIES, MOST_TICKS, MOST_WORK, MOST_NOTICES, MOST_PRIORITY, MOST_OWNED, MOST_OWNED_IN_ONE, MOST_DEPTH, MOST_VALUE, MOST_SPAN, MOST_LINE};
+ghost use Rattle.apex_types.specs.declared.limits.TheConstants.{MOST_PROFILE, MOST_CORES, MOST_CORE_PLACES, MOST_PROCESSES, MOST_PROCESSES_IN_ONE, MOST_OBJECTS, MOST_NAME, MOST_STEPS, MOST_INIT_STEPS, MOST_MESSAGE, MOST_LITERAL, MOST_MESSAGES, MOST_ENTRIES, USUAL_ENTRIES, MOST_TICKS, MOST_WORK, MOST_NOTICES, MOST_PRIORITY, MOST_OWNED, MOST_OWNED_IN_ONE, MOST_DEPTH, MOST_VALUE, MOST_SPAN, MOST_LINE};
 
 /// The number of the largest profile; the smallest is 1.
 pub const MOST_PROFILE: u32 = 2;
 
 /// The most cores of a partition.
 pub const MOST_CORES: u32 = 8;
+
+/// The most places of a list that has one for each core.
+pub const MOST_CORE_PLACES: usize = MOST_CORES as usize;
 
 /// The most processes of a table.
 pub const MOST_PROCESSES: usize = 64;
@@ -76,6 +79,7 @@ pub const MOST_LINE: usize = 4_096;
 pub fn limits_of_the_profile()
     ensures most_profile { MOST_PROFILE ≡ 2 }
     ensures most_cores { MOST_CORES ≡ 8 }
+    ensures most_core_places { MOST_CORE_PLACES ≡ 8 }
     ensures most_processes { MOST_PROCESSES ≡ 64 }
     ensures most_processes_in_one { MOST_PROCESSES_IN_ONE ≡ 32 }
     ensures most_objects { MOST_OBJECTS ≡ 16 }
