@@ -65,30 +65,31 @@ module _ (profile : Profile) (cores limit : ℕ) (ps : List ProcessConfig) (obje
         all_joined P _ (all_places starts_process (AllByRecursion P) Q (length ps) (λ p entry below q. start_law P entry.start _ (of.started p below)) 0 ps all (omega arith)) in
         all_append P _ _ (all_append P _ _ (all_append P _ _ object_steps processes) started) (of.normal, tt)
 
-  -- each step names entries alone, so it is lawful at each place
+  -- each step names entries alone, and gives no number but a process's core, so it is lawful at each place
   abbrev Fits : Step → Type 0
   Fits step = (k : ℕ) → IsLawfulStep Whole (Init k) step
 
   created_fits : (k : Kind) (i : ℕ) → i < count_of Whole k → Fits (bare (create k i))
-  created_fits Process i below k = record { known = below; literal = refl }
-  created_fits Semaphore i below k = record { known = below; literal = refl }
-  created_fits Buffer i below k = record { known = below; literal = refl }
-  created_fits Blackboard i below k = record { known = below; literal = refl }
-  created_fits EventFlag i below k = record { known = below; literal = refl }
-  created_fits Mutex i below k = record { known = below; literal = refl }
+  created_fits Process i below k = record { known = below; numbers = tt; literal = refl }
+  created_fits Semaphore i below k = record { known = below; numbers = tt; literal = refl }
+  created_fits Buffer i below k = record { known = below; numbers = tt; literal = refl }
+  created_fits Blackboard i below k = record { known = below; numbers = tt; literal = refl }
+  created_fits EventFlag i below k = record { known = below; numbers = tt; literal = refl }
+  created_fits Mutex i below k = record { known = below; numbers = tt; literal = refl }
 
-  fits_defaults : OfDefaults Whole (λ entry. Unit {0}) Fits
+  fits_defaults : OfDefaults Whole (λ entry. entry.core < 256) Fits
   fits_defaults = record {
     created = created_fits;
-    placed = λ p entry below _ k. record { known = below; literal = refl };
-    started = λ p below k. record { known = below; literal = refl };
-    normal = λ k. record { known = tt; literal = refl };
+    placed = λ p entry below small k. record { known = below; numbers = omega (arith, small); literal = refl };
+    started = λ p below k. record { known = below; numbers = tt; literal = refl };
+    normal = λ k. record { known = tt; numbers = tt; literal = refl };
   }
 
-  pub default_init_law : AllFrom (λ k step. IsLawfulStep Whole (Init k) step) 0 (default_init ps objects)
-  default_init_law =
+  pub default_init_law : AllByRecursion (λ (entry : ProcessConfig). entry.core < 256) ps
+      → AllFrom (λ k step. IsLawfulStep Whole (Init k) step) 0 (default_init ps objects)
+  default_init_law small =
       all_from_any (λ k step. IsLawfulStep Whole (Init k) step) 0 (default_init ps objects)
-      (default_steps (λ entry. Unit {0}) Fits fits_defaults (all_any ps))
+      (default_steps (λ entry. entry.core < 256) Fits fits_defaults small)
 
 created_length : (p : ℕ) (entries : List ProcessConfig) → length (joined (map_places creates_process p entries)) ≡ 2 * length entries
 created_length p [] = refl

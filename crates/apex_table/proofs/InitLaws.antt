@@ -1,5 +1,6 @@
 -- An init list, given or default, is short enough, and its steps are lawful.
-use Rattle.std.proofs.Common.{ℕ, ◌+◌, ◌≤◌, List, [], length, Option, Some, None, IfSome, IfOk, arith}
+use Rattle.std.proofs.Common.{ℕ, ◌+◌, ◌<◌, ◌≤◌, List, [], length, Option, Some, None, IfSome, IfOk, arith}
+use Rattle.std.specs.List.{AllByRecursion}
 use Rattle.std.proofs.lemmas.Result.{IfOk-at_ok, IfOk-weaker}
 use Rattle.toml.specs.Data.{Data}
 use Rattle.apex_types.specs.declared.limits.TheConstants.{MOST_INIT_STEPS, MOST_OBJECTS, MOST_PROCESSES}
@@ -66,13 +67,13 @@ module _ (table : Table) (names : Names) (same : AreNamesOf table names) where
   init_steps_law : (ts : List (List ℕ)) → length ts ≤ MOST_INIT_STEPS → IfOk (init_steps names ts) (IsInitList table)
   init_steps_law ts few = both_ok (init_steps names ts) _ _ (λ steps short lawful. record { few = short; lawful = lawful }) (steps_length ts few) (steps_lawful ts)
 
-pub init_list_law : (profile : Profile) (cores limit : ℕ) (procs : List ProcessConfig) (objects : Objects) (init : List Step) (names : Names) → AreNamesOf (table_with profile cores limit procs objects init) names → length procs ≤ MOST_PROCESSES → AreLawful objects → (o : Option (List (List ℕ))) → AreFew o → IfOk (init_list names procs objects o) (IsInitList (table_with profile cores limit procs objects init))
-init_list_law profile cores limit procs objects init names same some lawful (Some ts) few =
+pub init_list_law : (profile : Profile) (cores limit : ℕ) (procs : List ProcessConfig) (objects : Objects) (init : List Step) (names : Names) → AreNamesOf (table_with profile cores limit procs objects init) names → length procs ≤ MOST_PROCESSES → AllByRecursion (λ (entry : ProcessConfig). entry.core < 256) procs → AreLawful objects → (o : Option (List (List ℕ))) → AreFew o → IfOk (init_list names procs objects o) (IsInitList (table_with profile cores limit procs objects init))
+init_list_law profile cores limit procs objects init names same some small lawful (Some ts) few =
     init_steps_law (table_with profile cores limit procs objects init) names same ts few
-init_list_law profile cores limit procs objects init names same some lawful None few =
+init_list_law profile cores limit procs objects init names same some small lawful None few =
     let semaphores : length objects.semaphores ≤ MOST_OBJECTS = lawful.semaphores.few in
     let buffers : length objects.buffers ≤ MOST_OBJECTS = lawful.buffers.few in
     let blackboards : length objects.blackboards ≤ MOST_OBJECTS = lawful.blackboards.few in
     let event_flags : length objects.event_flags ≤ MOST_OBJECTS = lawful.event_flags.few in
     let mutexes : length objects.mutexes ≤ MOST_OBJECTS = lawful.mutexes.few in
-    record { few = omega (arith, default_init_length procs objects); lawful = default_init_law profile cores limit procs objects init }
+    record { few = omega (arith, default_init_length procs objects); lawful = default_init_law profile cores limit procs objects init small }

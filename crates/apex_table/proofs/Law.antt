@@ -1,6 +1,6 @@
 -- A table that is read is lawful.
-use Rattle.std.proofs.Common.{◌≡◌, ℕ, ◌≤◌, List, length, Ok, IfOk, sym, ap, subst, arith}
-use Rattle.std.specs.List.{IsDistinct}
+use Rattle.std.proofs.Common.{◌≡◌, ℕ, ◌<◌, ◌≤◌, List, length, Ok, IfOk, sym, ap, subst, arith}
+use Rattle.std.specs.List.{AllByRecursion, IsDistinct}
 use Rattle.std.specs.Str.{bytes_eq}
 use Rattle.std.proofs.lemmas.List.{length-map}
 use Rattle.std.proofs.lemmas.List.Elements.{All-from_recursion}
@@ -26,7 +26,7 @@ use Rattle.apex_table.specs.Init.{init_texts, init_list}
 use Rattle.apex_configs.specs.Tables.{table_with}
 use Rattle.apex_table.specs.declared.reading.Head.{Head}
 use Rattle.apex_table.specs.Reading.{top_keys, TableDraft, IsRead, head, draft, with_steps}
-use Rattle.apex_table.proofs.Results.{ok_then, AllFrom, all_from_start}
+use Rattle.apex_table.proofs.Results.{ok_then, AllFrom, all_by_place, all_from_start}
 use Rattle.apex_table.proofs.KeyLaws.{number_at_law, number_or_law}
 use Rattle.apex_table.proofs.ProcessLaws.{some_process_law, IsSoundDraft, process_law}
 use Rattle.apex_table.proofs.SectionLaws.{IsSection, section_law}
@@ -147,7 +147,12 @@ with_steps_law drafted sound =
     let procs_count : length (entry_names procs) ≡ length procs = length-map procs (λ (e : ProcessConfig). e.name) in
     let drafts_count : length (process_names drafts) ≡ length drafts = length-map drafts (λ (p : ProcessDraft). p.name) in
     let each : AllFrom (IsLawfulProcess whole) 0 procs = IfOk-at_ok (AllFrom (IsLawfulProcess whole) 0) ew (with_scripts_law whole (names_of drafts things) names drafts sound.processes.all.each) in
-    let init : IsInitList whole steps = IfOk-at_ok (IsInitList whole) ei (init_list_law profile cores limit procs things steps (names_of drafts things) names (omega arith) sound.objects drafted.init sound.init) in
+    let small : AllByRecursion (λ (entry : ProcessConfig). entry.core < 256) procs =
+    all_by_place (λ (entry : ProcessConfig). entry.core < 256) no_process procs (λ p below.
+    let core = (all_from_start (IsLawfulProcess whole) procs each p no_process below).core in
+    let most : cores ≤ MOST_CORES = sound.head.cores.1 in
+    omega (arith, core, most)) in
+    let init : IsInitList whole steps = IfOk-at_ok (IsInitList whole) ei (init_list_law profile cores limit procs things steps (names_of drafts things) names (omega arith) small sound.objects drafted.init sound.init) in
     lawful profile cores limit drafts procs things steps sound.head.cores sound.head.limit (omega arith, omega arith)
     (subst (λ (ns : List (List ℕ)). IsDistinct bytes_eq ns) (sym same) sound.processes.all.distinct) each sound.objects init))
 

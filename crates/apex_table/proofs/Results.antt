@@ -65,6 +65,11 @@ pub all_from_start : {A : Type 0} (P : ℕ → A → Type 0) (xs : List A) → A
 all_from_start P xs all i default below =
     let z : 0 + i ≡ i = omega arith in subst (λ n. P n (slice_index_or xs i default)) z (all_from_at P 0 xs all i default below)
 
+-- each element, by its place
+pub all_by_place : {A : Type 0} (P : A → Type 0) (default : A) (xs : List A) → ((i : ℕ) → i < length xs → P (slice_index_or xs i default)) → AllByRecursion P xs
+all_by_place P default [] all = tt
+all_by_place P default (x ∷ xs) all = (all 0 (omega arith), all_by_place P default xs (λ i below. all (suc i) (omega arith)))
+
 pub all_any : {A : Type 0} (xs : List A) → AllByRecursion (λ x. Unit {0}) xs
 all_any [] = tt
 all_any (x ∷ xs) = (tt, all_any xs)

@@ -9,7 +9,7 @@ use Rattle.apex_machine.specs.table.Table.{IsKnownName, IsLiteral, IsMessageOf}
 use Rattle.apex_types.specs.Calls.{unknown}
 use Rattle.apex_machine.specs.text.Texts.{bytes_text}
 use Rattle.apex_calls.specs.Catalogue.{row_of}
-use Rattle.apex_calls.specs.CallText.{timeout_text, mode_text, named_text}
+use Rattle.apex_calls.specs.CallText.{mode_text, named_text}
 use Rattle.apex_calls.specs.declared.catalogue.Service.TheVariants.{SetPartitionMode}
 use Rattle.apex_calls.specs.declared.catalogue.Shape.TheVariants.{Entry, Named, Number, Timeout, Message, Mode}
 use Rattle.apex_table.specs.Terms.{Kind, Message as MessageOf, Named as NameOf, Origin, Place, RequestedMode, Service, Shape, Subject, TableFault, Timeout as TimeoutOf}
@@ -19,7 +19,7 @@ use Rattle.apex_table.specs.Keys.{well_formed}
 use Rattle.apex_table.specs.Names.{Names, names_in}
 use Rattle.apex_words.specs.Words.{is_empty}
 use Rattle.apex_table.specs.Steps.{Given, of_word, has_form, have_forms, with_entry, with_number, with_timeout, with_mode, with_name, with_message, with_word, with_words}
-use Rattle.apex_table.proofs.Spelling.{some_or_ok, made_ok, true-false, IsNumber, number_law, timeout_law, mode_law, message_law, IsPlaceOf, place_law, entry_law}
+use Rattle.apex_table.proofs.Spelling.{some_or_ok, made_ok, true-false, IsNumber, number_law, IsTimeoutOf, timeout_law, mode_law, message_law, IsPlaceOf, place_law, entry_law}
 
 -- the two shapes fill the same field
 abbrev pub clash : Shape → Shape → Bool
@@ -146,7 +146,7 @@ Says origin names (Named k) w filled =
     IsKnownName (length (names_in names k)) filled.0 × IsLiteral origin filled.1 (unknown filled.0) None
     × (named_text (name_at names k) (λ o. filled.1) filled.0 ≡ w)
 Says origin names (Number low high) w n = IsNumber low high w n
-Says origin names Timeout w t = timeout_text t ≡ w
+Says origin names Timeout w t = IsTimeoutOf w t
 Says origin names Message w filled = IsMessageOf origin filled.1 filled.0 × (bytes_text filled.1 ≡ w)
 Says origin names Mode w m = mode_text m ≡ w
 

@@ -12,6 +12,7 @@ use Rattle.std.proofs.lemmas.Slice.Eq.{bytes_eq-Decides}
 use Rattle.std.proofs.lemmas.Str.Parse.{IsNumeralModel, numerals_by_weight, tells_all_ascii_digits}
 use Rattle.apex_types.specs.declared.limits.TheConstants.{MOST_MESSAGE, MOST_SPAN}
 use Rattle.apex_types.specs.Numbers.{digits_value, has_leading_zero, number_of, at_most, at_least}
+use Rattle.apex_machine.specs.table.Table.{IsLawfulTimeout}
 use Rattle.apex_machine.specs.text.Texts.{byte_text, bytes_text}
 use Rattle.apex_types.specs.declared.calls.RequestedMode.TheVariants.{Idle, Normal}
 use Rattle.apex_types.specs.declared.calls.Timeout.TheVariants.{Poll, Ticks, Infinite}
@@ -90,22 +91,28 @@ number_law subject low high narrow w n e =
 
 -- timeouts
 
-infinite_text : (subject : Subject) (w : List ℕ) (b : Bool) (t : Timeout) → bytes_eq w (codes "infinite") ≡ b → (if b then Ok Infinite else made Ticks (number subject 1 MOST_SPAN w)) ≡ Ok t → timeout_text t ≡ w
-infinite_text subject w true t same e =
+-- a timeout in its range
+pub record IsTimeoutOf (w : List ℕ) (t : Timeout) : Type 0 where
+  pub lawful : IsLawfulTimeout t
+  pub text : timeout_text t ≡ w
+
+infinite_law : (subject : Subject) (w : List ℕ) (b : Bool) (t : Timeout) → bytes_eq w (codes "infinite") ≡ b → (if b then Ok Infinite else made Ticks (number subject 1 MOST_SPAN w)) ≡ Ok t → IsTimeoutOf w t
+infinite_law subject w true t same e =
     let is : Infinite ≡ t = cc e in
-    subst (λ t. timeout_text t ≡ w) is (sym (bytes_same w (codes "infinite") same))
-infinite_text subject w false t same e =
+    subst (IsTimeoutOf w) is (record { lawful = tt; text = sym (bytes_same w (codes "infinite") same) })
+infinite_law subject w false t same e =
     let m = made_ok Ticks (number subject 1 MOST_SPAN w) t e in
-    subst (λ t. timeout_text t ≡ w) m.2 (number_law subject 1 MOST_SPAN (omega arith) w m.0 m.1).text
+    let n = number_law subject 1 MOST_SPAN (omega arith) w m.0 m.1 in
+    subst (IsTimeoutOf w) m.2 (record { lawful = (n.least, n.most); text = n.text })
 
-poll_text : (subject : Subject) (w : List ℕ) (b : Bool) (t : Timeout) → bytes_eq w (codes "0") ≡ b → (if b then Ok Poll else if bytes_eq w (codes "infinite") then Ok Infinite else made Ticks (number subject 1 MOST_SPAN w)) ≡ Ok t → timeout_text t ≡ w
-poll_text subject w true t same e =
+poll_law : (subject : Subject) (w : List ℕ) (b : Bool) (t : Timeout) → bytes_eq w (codes "0") ≡ b → (if b then Ok Poll else if bytes_eq w (codes "infinite") then Ok Infinite else made Ticks (number subject 1 MOST_SPAN w)) ≡ Ok t → IsTimeoutOf w t
+poll_law subject w true t same e =
     let is : Poll ≡ t = cc e in
-    subst (λ t. timeout_text t ≡ w) is (sym (bytes_same w (codes "0") same))
-poll_text subject w false t same e = infinite_text subject w (bytes_eq w (codes "infinite")) t refl e
+    subst (IsTimeoutOf w) is (record { lawful = tt; text = sym (bytes_same w (codes "0") same) })
+poll_law subject w false t same e = infinite_law subject w (bytes_eq w (codes "infinite")) t refl e
 
-pub timeout_law : (subject : Subject) (w : List ℕ) (t : Timeout) → timeout subject w ≡ Ok t → timeout_text t ≡ w
-timeout_law subject w t e = poll_text subject w (bytes_eq w (codes "0")) t refl e
+pub timeout_law : (subject : Subject) (w : List ℕ) (t : Timeout) → timeout subject w ≡ Ok t → IsTimeoutOf w t
+timeout_law subject w t e = poll_law subject w (bytes_eq w (codes "0")) t refl e
 
 -- modes
 

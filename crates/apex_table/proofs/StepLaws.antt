@@ -1,6 +1,6 @@
 -- Each step that is read is lawful: it names entries of the table, or its own literal. And its call,
 -- written again, is its text.
-use Rattle.std.proofs.Common.{◌≡◌, ℕ, ◌<◌, Bool, true, false, if◌then◌else◌, List, [], ◌∷◌, length, map, Option, Some, None, IfSome, Result, Ok, Err, IfOk, refl, sym, ap, subst, ◌∙◌, arith}
+use Rattle.std.proofs.Common.{◌≡◌, ℕ, ◌<◌, ◌≤◌, Bool, true, false, if◌then◌else◌, List, [], ◌∷◌, length, map, Option, Some, None, IfSome, Result, Ok, Err, IfOk, refl, sym, ap, subst, ◌∙◌, arith}
 use Rattle.std.specs.List.{AllByRecursion, list_any, list_all}
 use Rattle.std.specs.Str.{bytes_eq}
 use Rattle.std.proofs.lemmas.List.Splits.{join_with_byte-slice_split}
@@ -9,7 +9,7 @@ use Rattle.std.proofs.lemmas.Result.{IfOk-weaker}
 use Rattle.std.proofs.lemmas.Slice.Eq.{bytes_eq-Decides}
 use Rattle.apex_types.specs.Calls.{unknown}
 use Rattle.apex_machine.specs.services.Calls.{origin_of, message_in}
-use Rattle.apex_machine.specs.table.Table.{IsKnown, IsLawfulStep, IsLiteral, IsMessageOf, Step, Table}
+use Rattle.apex_machine.specs.table.Table.{HasNumbersInRange, IsKnown, IsLawfulStep, IsLawfulTimeout, IsLiteral, IsMessageOf, Step, Table}
 use Rattle.apex_machine.specs.text.Texts.{bytes_text}
 use Rattle.apex_types.specs.declared.calls.Named.TheVariants.{Known, Unknown}
 use Rattle.apex_types.specs.declared.calls.Origin.TheVariants.{Script}
@@ -64,6 +64,17 @@ range_of : (origin : Origin) (names : Names) (g : Given) (s : Shape) (w : List �
 range_of origin names g (Number low high) w h = (h.least, h.most)
 range_of origin names g _ w h = tt
 
+-- the number or the timeout, if the shape has one, is in its range
+abbrev IsLawfulIn : Arguments → Shape → Type 0
+IsLawfulIn a (Number low high) = (low ≤ a.number) × (a.number ≤ high)
+IsLawfulIn a Timeout = IsLawfulTimeout a.timeout
+IsLawfulIn a _ = Unit {0}
+
+lawful_of : (origin : Origin) (names : Names) (g : Given) (s : Shape) (w : List ℕ) → Says origin names s w (slot s g) → IsLawfulIn g.arguments s
+lawful_of origin names g (Number low high) w h = (h.least, h.most)
+lawful_of origin names g Timeout w h = h.lawful
+lawful_of origin names g _ w h = tt
+
 known_of : (table : Table) (names : Names) → AreNamesOf table names → (origin : Origin) (g : Given) (s : Shape) (w : List ℕ) → Says origin names s w (slot s g) → IsKnownWord table g.arguments s
 known_of table names same origin g (Entry k) w h = subst (λ n. g.arguments.entry < n) (many_names table names same k) h.below
 known_of table names same origin g (Named k) w h = rw (many_names table names same k) at h.0
@@ -83,7 +94,7 @@ module _ (origin : Origin) (names : Names) (g : Given) (literals : Origin → Li
   text_of (Entry k) w h = h.text
   text_of (Named k) w h = named_word (name_at names k) literals origin g.literal same g.arguments.named w h.1 h.2
   text_of (Number low high) w h = h.text
-  text_of Timeout w h = h
+  text_of Timeout w h = h.text
   text_of Message w h = ap (λ o. bytes_text (literals o)) h.0.given ∙ ap bytes_text same ∙ h.1
   text_of Mode w h = h
 
@@ -107,6 +118,22 @@ known_call table a services.Replenish h = tt
 known_call table a services.GetTime h = tt
 known_call table a services.Work h = tt
 known_call table a _ h = h.0
+
+numbers_call : (a : Arguments) (s : Service) → AllByRecursion (IsLawfulIn a) (row_of s).shapes → HasNumbersInRange (call_of s a)
+numbers_call a services.InitializeProcessCoreAffinity h = h.1.0.1
+numbers_call a services.SetPriority h = h.1.0.1
+numbers_call a services.DelayedStart h = h.1.0
+numbers_call a services.SuspendSelf h = h.0
+numbers_call a services.TimedWait h = h.0
+numbers_call a services.Replenish h = h.0
+numbers_call a services.Work h = h.0
+numbers_call a services.WaitSemaphore h = h.1.0
+numbers_call a services.SendBuffer h = h.1.1.0
+numbers_call a services.ReceiveBuffer h = h.1.0
+numbers_call a services.ReadBlackboard h = h.1.0
+numbers_call a services.WaitEvent h = h.1.0
+numbers_call a services.AcquireMutex h = h.1.0
+numbers_call a _ h = tt
 
 literal_call : (origin : Origin) (g : Given) (s : Service) → AllByRecursion (GivesLiteral origin g) (row_of s).shapes → (list_any fills_literal (row_of s).shapes ≡ false → g.literal ≡ []) → IsLiteral origin g.literal (origin_of (call_of s g.arguments)) (message_in (call_of s g.arguments))
 literal_call origin g services.CreateProcess h bare = h.0
@@ -166,6 +193,9 @@ module _ (at : Place) (origin : Origin) (names : Names) where
         let known : AllByRecursion (IsKnownWord table done.arguments) (row_of r.service).shapes =
         subst (λ (r : Row). AllByRecursion (IsKnownWord table done.arguments) r.shapes) back
         (from_said origin names done (IsKnownWord table done.arguments) (known_of table names same origin done) r.shapes ws said) in
+        let numbers : AllByRecursion (IsLawfulIn done.arguments) (row_of r.service).shapes =
+        subst (λ (r : Row). AllByRecursion (IsLawfulIn done.arguments) r.shapes) back
+        (from_said origin names done (IsLawfulIn done.arguments) (lawful_of origin names done) r.shapes ws said) in
         let gives : AllByRecursion (GivesLiteral origin done) (row_of r.service).shapes =
         subst (λ (r : Row). AllByRecursion (GivesLiteral origin done) r.shapes) back
         (from_said origin names done (GivesLiteral origin done) (gives_of origin names done) r.shapes ws said) in
@@ -174,6 +204,7 @@ module _ (at : Place) (origin : Origin) (names : Names) where
         record {
           lawful = record {
             known = known_call table done.arguments r.service known;
+            numbers = numbers_call done.arguments r.service numbers;
             literal = literal_call origin done r.service gives bare;
           };
           words = λ literals same.

@@ -1,5 +1,5 @@
 -- Each step of a table that is read has one text, which is its call as a line writes it.
-use Rattle.std.proofs.Common.{◌≡◌, ℕ, zero, suc, ◌+◌, ◌<◌, ◌≤◌, slice_index_or, true, List, [], ◌∷◌, length, map, Option, Some, None, Result, Ok, Err, IfOk, refl, sym, ap, subst, ◌∙◌, arith}
+use Rattle.std.proofs.Common.{◌≡◌, ℕ, ◌+◌, ◌<◌, ◌≤◌, true, List, [], ◌∷◌, length, map, Option, Some, None, Result, Ok, Err, IfOk, refl, sym, ap, subst, ◌∙◌, arith}
 use Rattle.std.specs.List.{AllByRecursion, IsDistinct, position_from}
 use Rattle.std.specs.Str.{bytes_eq}
 use Rattle.std.proofs.lemmas.List.{length-map}
@@ -25,7 +25,7 @@ use Rattle.apex_table.specs.DefaultInit.{default_init}
 use Rattle.apex_table.specs.Init.{is_init_call, init_step, next_init_step, init_steps, init_list}
 use Rattle.apex_configs.specs.Tables.{table_with}
 use Rattle.apex_table.specs.Reading.{TableDraft, IsRead, with_steps}
-use Rattle.apex_table.proofs.Results.{ok_then, ok_if, AllFrom, all_any, all_from_any, all_from_start, each_from}
+use Rattle.apex_table.proofs.Results.{ok_then, ok_if, AllFrom, all_any, all_by_place, all_from_any, all_from_start, each_from}
 use Rattle.apex_table.proofs.Slots.{name_at}
 use Rattle.apex_table.proofs.StepLaws.{AreNamesOf, text_law}
 use Rattle.apex_table.proofs.DefaultInitLaws.{OfDefaults, default_steps}
@@ -108,11 +108,6 @@ module _ (table : Table) where
       started = λ p below. by_name Process p below (λ name. started_written at from (table_names table) name p);
       normal = normal_written at from (table_names table);
     }
-
--- each element, by its place
-all_by_place : {E : Type 0} (Q : E → Type 0) (default : E) (entries : List E) → ((p : ℕ) → p < length entries → Q (slice_index_or entries p default)) → AllByRecursion Q entries
-all_by_place Q default [] all = tt
-all_by_place Q default (e ∷ entries) all = (all 0 (omega arith), all_by_place Q default entries (λ p below. all (suc p) (omega arith)))
 
 module _ (names : Names) where
   read_written : (at : Place) (from : Origin) (text : List ℕ) (r : Result Step TableFault) → step at from names text ≡ r → IfOk r (IsWritten at from names)

@@ -1,14 +1,22 @@
 -- A partition table as every contract sees it, and the facts about each accepted one.
 use Rattle.std.specs.Prelude.{◌≡◌, ℕ, ◌<◌, ◌≤◌, Bool, true, false, List, [], length, slice_index_or, slice_get, map, Option, None, Some, option_map, IsTrue}
-use Rattle.apex_types.specs.declared.limits.TheConstants.{MOST_CORES, MOST_ENTRIES, MOST_INIT_STEPS, MOST_MESSAGE, MOST_MESSAGES, MOST_OBJECTS, MOST_PRIORITY, MOST_SPAN, MOST_STEPS, MOST_VALUE}
+use Rattle.apex_types.specs.declared.limits.TheConstants.{MOST_CORES, MOST_ENTRIES, MOST_INIT_STEPS, MOST_MESSAGE, MOST_MESSAGES, MOST_OBJECTS, MOST_PRIORITY, MOST_SPAN, MOST_STEPS, MOST_VALUE, MOST_WORK}
 use Rattle.std.specs.List.{IsDistinct}
 use Rattle.std.specs.Str.{bytes_eq}
-use Rattle.apex_machine.specs.Terms.{Attributes, Call, Discipline, Message, Named, ObjectCall, Origin, Profile}
+use Rattle.apex_machine.specs.Terms.{Attributes, Call, Discipline, Message, Named, ObjectCall, Origin, Profile, Timeout}
+use Rattle.apex_types.specs.declared.calls.BlackboardService.TheVariants.{Read}
+use Rattle.apex_types.specs.declared.calls.BufferService.TheVariants.{Send, Receive}
 use Rattle.apex_types.specs.declared.calls.Call.TheVariants.{Partition, Process, Caller, Time, Semaphore, Buffer, Blackboard, EventFlag, Mutex, Work}
-use Rattle.apex_types.specs.declared.calls.CallerCall.TheVariants.{StopSelf}
+use Rattle.apex_types.specs.declared.calls.CallerCall.TheVariants.{StopSelf, SuspendSelf}
+use Rattle.apex_types.specs.declared.calls.EventFlagService.TheVariants as event_flag
+use Rattle.apex_types.specs.declared.calls.MutexService.TheVariants.{Acquire}
 use Rattle.apex_types.specs.declared.calls.Named.TheVariants.{Known, Unknown}
 use Rattle.apex_types.specs.declared.calls.ObjectCall.TheVariants.{Create, GetId, GetStatus, KindService}
 use Rattle.apex_types.specs.declared.calls.Origin.TheVariants.{Init, Script}
+use Rattle.apex_types.specs.declared.calls.ProcessService.TheVariants.{InitializeCoreAffinity, SetPriority, DelayedStart}
+use Rattle.apex_types.specs.declared.calls.SemaphoreService.TheVariants as semaphore
+use Rattle.apex_types.specs.declared.calls.TimeCall.TheVariants.{TimedWait, Replenish}
+use Rattle.apex_types.specs.declared.calls.Timeout.TheVariants.{Ticks}
 use Rattle.apex_types.specs.declared.modes.DeadlineType.TheVariants.{Soft}
 use Rattle.apex_types.specs.declared.modes.Discipline.TheVariants.{Fifo}
 use Rattle.apex_machine.specs.services.Calls.{origin_of, message_in}
@@ -179,9 +187,34 @@ IsLiteral origin literal None None = literal ≡ []
 IsLiteral origin literal None (Some message) = IsMessageOf origin literal message
 IsLiteral origin literal (Some named) message = (named ≡ origin) × IsTrue (is_name literal)
 
+-- a timeout that is a number of ticks is 1 to 4,294,967,295 of them
+abbrev pub IsLawfulTimeout : Timeout → Type 0
+IsLawfulTimeout (Ticks ticks) = (1 ≤ ticks) × (ticks ≤ MOST_SPAN)
+IsLawfulTimeout _ = Unit {0}
+
+-- the numbers that a call gives are in their ranges: the core is at most 255 and the priority at most
+-- 65,535, since the services test the rest; the timeout is lawful; a deadline lies 1 to 4,294,967,295
+-- ticks from now; and work has 1 to 1,048,576 units
+abbrev pub HasNumbersInRange : Call → Type 0
+HasNumbersInRange (Process (KindService p (InitializeCoreAffinity core))) = core ≤ 255
+HasNumbersInRange (Process (KindService p (SetPriority priority))) = priority ≤ 65535
+HasNumbersInRange (Process (KindService p (DelayedStart delay))) = IsLawfulTimeout delay
+HasNumbersInRange (Caller (SuspendSelf timeout)) = IsLawfulTimeout timeout
+HasNumbersInRange (Time (TimedWait timeout)) = IsLawfulTimeout timeout
+HasNumbersInRange (Time (Replenish span)) = (1 ≤ span) × (span ≤ MOST_SPAN)
+HasNumbersInRange (Semaphore (KindService s (semaphore.Wait timeout))) = IsLawfulTimeout timeout
+HasNumbersInRange (Buffer (KindService b (Send message timeout))) = IsLawfulTimeout timeout
+HasNumbersInRange (Buffer (KindService b (Receive timeout))) = IsLawfulTimeout timeout
+HasNumbersInRange (Blackboard (KindService b (Read timeout))) = IsLawfulTimeout timeout
+HasNumbersInRange (EventFlag (KindService e (event_flag.Wait timeout))) = IsLawfulTimeout timeout
+HasNumbersInRange (Mutex (KindService m (Acquire timeout))) = IsLawfulTimeout timeout
+HasNumbersInRange (Work amount) = (1 ≤ amount) × (amount ≤ MOST_WORK)
+HasNumbersInRange _ = Unit {0}
+
 -- the facts about the step of this origin of an accepted table
 pub record IsLawfulStep (table : Table) (origin : Origin) (step : Step) : Type 0 where
   pub known : IsKnown table step.call
+  pub numbers : HasNumbersInRange step.call
   pub literal : IsLiteral origin step.literal (origin_of step.call) (message_in step.call)
 
 -- a span of time, if it is finite, is 1 to 4,294,967,295 ticks
