@@ -1,10 +1,7 @@
 //! A store that keeps the ready processes, the waiters and the timers in linked lists.
-ghost use Rattle.std.specs.Prelude.{◌≡◌, ◌<◌, ◌&&◌, ◌||◌, not, length, IfOk};
-ghost use Rattle.apex_machine.specs.processes.Owners.{owns_some};
+ghost use Rattle.std.specs.Prelude.{◌≡◌, ◌<◌, length, IfOk};
 ghost use Rattle.apex_machine.specs.processes.Roster.{opening_roster};
 ghost use Rattle.apex_machine.specs.processes.Running.{is_eligible};
-ghost use Rattle.apex_machine.specs.processes.Stamps.{is_level};
-ghost use Rattle.apex_machine.specs.processes.Waiters.{goes_by_priority, queue_in};
 ghost use Rattle.apex_process.specs.State.{AreListsOfState};
 
 use crate::lists::Lists;
@@ -13,7 +10,7 @@ use apex_configs::Table;
 use apex_machine::{Holding, Holdings, Queue, Record, Wait};
 use apex_store::{PlainStore, Store, stays_level};
 use apex_timeouts::Timers;
-use apex_types::{CoreId, Discipline, Message, Mode, MutexId, ProcessId};
+use apex_types::{CoreId, Message, Mode, MutexId, ProcessId};
 use std::alloc::{AllocError, Global};
 use std::marker::Model;
 
@@ -63,39 +60,11 @@ impl Model for QueueStore {
         × AreTimers s.records s.timers.dues s.timers.deadlines × AreOwners s.records s.owners };
 }
 
-/// The process of this record owns a mutex, and its current priority stays with this base priority.
-fn stays_at(given: &Record, base: u8) -> bool
-    ensures { result ≡
-        (owns_some given.now && is_level (record given.now { base = base }) given.now) }
-{
-    given.owns_some() && stays_level(given, base, &given.owned)
-}
-
 /// The process of this record is ready.
 fn is_ready(records: &PlainStore, given: &Record) -> bool
     ensures { result ≡ is_eligible records.now.mode given.now }
 {
     given.is_eligible(records.mode())
-}
-
-/// The process of this record waits in a queue in which the more urgent comes first.
-fn goes_by_priority(records: &PlainStore, given: &Record) -> bool
-    ensures { result ≡ goes_by_priority records.now (queue_in given.now) }
-{
-    match given.queue() {
-        Some(queue) => records.discipline(&queue) == Discipline::Priority,
-        None => false,
-    }
-}
-
-/// The process of this record goes to another place as it gets this base priority.
-fn moves_at(records: &PlainStore, given: &Record, base: u8) -> bool
-    ensures { result ≡
-        ((is_eligible records.now.mode given.now
-        && not (owns_some given.now && is_level (record given.now { base = base }) given.now))
-        || goes_by_priority records.now (queue_in given.now)) }
-{
-    is_ready(records, given) && !stays_at(given, base) || goes_by_priority(records, given)
 }
 
 impl QueueStore {
@@ -260,7 +229,7 @@ impl Store for QueueStore {
 
     fn set_priority(&mut self, process: ProcessId, base: u8) {
         let record = self.records.record(process);
-        let moves = moves_at(&self.records, record, base);
+        let moves = self.records.moves_at(record, base);
         self.records.set_priority(process, base);
         if moves {
             let moved = self.records.record(process);

@@ -1,13 +1,15 @@
 //! A store of one list of records, which answers each question by a scan.
-ghost use Rattle.std.specs.Prelude.{◌≡◌, ◌<◌, ◌≤◌, count_by, length, slice_index_or, IfOk};
+ghost use Rattle.std.specs.Prelude.{◌≡◌, ◌<◌, ◌≤◌, ◌&&◌, ◌||◌, count_by, length, not, slice_index_or, IfOk};
 ghost use Rattle.apex_types.specs.declared.limits.TheConstants.{MOST_PROCESSES};
 ghost use Rattle.apex_types.specs.Limits.{latest};
+ghost use Rattle.apex_machine.specs.processes.Owners.{owns_some};
 ghost use Rattle.apex_machine.specs.processes.Roster.{opening_roster, with_record};
+ghost use Rattle.apex_machine.specs.processes.Running.{is_eligible};
 ghost use Rattle.apex_machine.specs.processes.Dues.{HasTime};
 ghost use Rattle.apex_machine.specs.processes.Periods.{deadline_from};
 ghost use Rattle.apex_types.specs.declared.modes.Discipline.TheVariants.{Fifo};
 ghost use Rattle.apex_machine.specs.processes.Stamps as stamps;
-ghost use Rattle.apex_machine.specs.processes.Waiters.{discipline_of, goes_by_priority, waits_in};
+ghost use Rattle.apex_machine.specs.processes.Waiters.{discipline_of, goes_by_priority, queue_in, waits_in};
 
 use crate::dues::{earliest, first_due, first_missed};
 use crate::opening::{
@@ -245,6 +247,17 @@ impl PlainStore {
             Some(queue) => self.discipline(&queue) == Discipline::Priority,
             None => false,
         }
+    }
+
+    /// The process of this record goes to another place as it gets this base priority.
+    pub fn moves_at(&self, fields: &Record, base: u8) -> bool
+        ensures { result ≡ ((is_eligible self.now.mode fields.now
+            && not (owns_some fields.now
+            && stamps.is_level (record fields.now { base = base }) fields.now))
+            || goes_by_priority self.now (queue_in fields.now)) }
+    {
+        let stays = fields.owns_some() && stays_level(fields, base, &fields.owned);
+        (fields.is_eligible(self.mode) && !stays) || self.goes_by_priority(fields.queue())
     }
 
     /// The mode and the time from now on, and the next stamps upwards and downwards.
@@ -500,8 +513,7 @@ impl Store for PlainStore {
     fn set_priority(&mut self, process: ProcessId, base: u8) {
         let fields = *self.record(process);
         let changed = Record { base, ..fields };
-        let stays = fields.owns_some() && stays_level(&fields, base, &fields.owned);
-        if (fields.is_eligible(self.mode) && !stays) || self.goes_by_priority(fields.queue()) {
+        if self.moves_at(&fields, base) {
             self.put_newest(process, changed);
         } else {
             self.put(process, changed);
