@@ -30,6 +30,7 @@ pub enum LintVerdict {
 pub struct Report {
     /// Its bytes, in the form that was asked for.
     pub text: Vec<u8>,
+    /// Whether the text is a table, and whether there is a warning about it.
     pub verdict: LintVerdict,
 }
 

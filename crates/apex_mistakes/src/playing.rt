@@ -1,7 +1,7 @@
 //! The comparison of the cases with the reports on their tables.
 use crate::cases::Case;
 use apex_json::Form;
-use apex_lint::{Report, Verdict, report_on};
+use apex_lint::{LintVerdict, Report, report_on};
 use apex_warnings::allowed_in;
 use std::alloc::{AllocError, AllocGlobal, Global};
 use std::process::ExitCode;
@@ -18,11 +18,11 @@ pub struct Counts {
     pub differing: usize,
 }
 
-fn status_word(verdict: Verdict) -> &'static str {
+fn status_word(verdict: LintVerdict) -> &'static str {
     match verdict {
-        Verdict::Accepted => "0",
-        Verdict::Warned => "1",
-        Verdict::Refused => "3",
+        LintVerdict::Accepted => "0",
+        LintVerdict::Warned => "1",
+        LintVerdict::Refused => "3",
     }
 }
 
@@ -53,7 +53,7 @@ impl Counts {
     {
         let Report { text, verdict } = report_of(rt.alloc(), case)?;
         self.tables = self.tables.saturating_add(1);
-        if matches!(verdict, Verdict::Refused) {
+        if matches!(verdict, LintVerdict::Refused) {
             self.refused = self.refused.saturating_add(1);
         }
         if case.status == status_word(verdict) && case.report.as_bytes() == text.as_slice() {

@@ -15,6 +15,8 @@ pub use counts::{Counts, counts_of};
 pub use instants::{Instant, WIDE_MOMENTS};
 pub use kinds::{Kind, content_of, displayed_on, raised_of, value_of};
 pub use laws::{columns_say_entries, moments_are_in_order, texts_are_read_back};
-pub use moments::{Cell, Moment, is_process, moment_in, running_at, running_of, state_of};
+pub use moments::{
+    Cell, Moment, is_process, is_same_process, moment_in, running_at, running_of, state_of,
+};
 pub use texts::{Part, put, put_all, put_number, put_xml};
 pub use words::{id_part, notice_word, profile_number, put_object, put_wait};

@@ -11,7 +11,7 @@ use apex_configs::Table;
 use apex_dispatch::Situation;
 use apex_machine::{Holdings, Record, Wait};
 use apex_store::Store;
-use apex_types::{CoreId, MOST_CORE_PLACES, MOST_PROCESSES, Mode, ProcessId, State};
+use apex_types::{CoreId, MOST_CORE_PLACES, MOST_CORES, MOST_PROCESSES, Mode, ProcessId, State};
 use arrayvec::ArrayVec;
 use std::marker::Model;
 

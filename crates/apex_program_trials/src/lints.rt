@@ -1,7 +1,7 @@
 //! Reports on the texts of tables; the lines that are wanted follow from the rules of their form.
 
 use apex_json::Form;
-use apex_lint::{Verdict, report_on};
+use apex_lint::{LintVerdict, report_on};
 use apex_warnings::allowed_in;
 use std::alloc::Global;
 use std::mem::drop;
@@ -73,12 +73,12 @@ script = ["GET_TIME"]
 "#;
 
 /// Texts, each with the form of a report, its parts and the verdict.
-const REPORTS: [(&str, Form, &[&str], Verdict); 5] = [
-    (REFUSED, Form::Text, &[FAULTS], Verdict::Refused),
-    (REFUSED, Form::Json, &[FAULT_OBJECTS], Verdict::Refused),
-    (DOUBTFUL, Form::Text, &DOUBTS, Verdict::Warned),
-    (PLAIN, Form::Text, &[], Verdict::Accepted),
-    (PLAIN, Form::Json, &["[]\n"], Verdict::Accepted),
+const REPORTS: [(&str, Form, &[&str], LintVerdict); 5] = [
+    (REFUSED, Form::Text, &[FAULTS], LintVerdict::Refused),
+    (REFUSED, Form::Json, &[FAULT_OBJECTS], LintVerdict::Refused),
+    (DOUBTFUL, Form::Text, &DOUBTS, LintVerdict::Warned),
+    (PLAIN, Form::Text, &[], LintVerdict::Accepted),
+    (PLAIN, Form::Json, &["[]\n"], LintVerdict::Accepted),
 ];
 
 /// Whether the bytes are these parts, one behind the other.
@@ -97,7 +97,7 @@ fn are_parts(bytes: &[u8], parts: &[&str]) -> bool {
 fn has_report<R: Abort>(
     rt: &R,
     alloc: Global,
-    (form, verdict): (Form, Verdict),
+    (form, verdict): (Form, LintVerdict),
     allowed: &[&str],
     text: &str,
     expected: &[&str],
@@ -125,7 +125,7 @@ fn warnings_are_left_out_by_their_words(rt: HostRuntime) {
     assert!(rt; !are_words(&rt, rt.alloc(), "empty-script,"));
     let words = allowed_in(rt.alloc(), "empty-script,much-work").expect(&rt, "memory");
     let allowed = words.expect(&rt, "the words of two warnings");
-    let warned = (Form::Text, Verdict::Warned);
+    let warned = (Form::Text, LintVerdict::Warned);
     has_report(&rt, rt.alloc(), warned, &allowed, DOUBTFUL, &DOUBTS[1..]);
     drop(allowed);
 }

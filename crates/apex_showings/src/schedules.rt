@@ -19,6 +19,7 @@ pub enum ScheduleReason {
 /// A fault of a schedule's text, with its place.
 #[derive(Clone, Copy, PartialEq, Eq)]
 pub struct BadSchedule {
+    /// Why the text is no schedule.
     pub reason: ScheduleReason,
     /// The number of the item, from 1.
     pub item: usize,

@@ -27,6 +27,7 @@ pub struct Window {
 /// The numbers of the first entry of a window and of the last one.
 #[derive(Clone, Copy)]
 pub struct EntryRange {
+    /// The number of the first entry in the history, counted from 1.
     pub first: u32,
     /// The number of the last entry, which is in the window, too.
     pub last: u32,

@@ -32,6 +32,7 @@ const SAID: usize = 2 * MOST_ESCAPE * MOST_LINE + DIGITS + 40;
 /// The times of the moments before and after an entry, in nanoseconds.
 #[derive(Clone, Copy)]
 pub struct Lasting {
+    /// The time of the moment before the entry.
     pub begin: u64,
     /// The time of the moment after it.
     pub end: u64,

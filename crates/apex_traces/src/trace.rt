@@ -31,7 +31,7 @@ use apex_configs::Table;
 use apex_dispatch::Situation;
 use apex_history::{code_word, deadline_word};
 use apex_json::MOST_ESCAPE;
-use apex_moments::{Part, id_part, profile_number, put, put_all, running_at};
+use apex_moments::{Part, id_part, is_same_process, profile_number, put, put_all, running_at};
 use apex_names::process_name;
 use apex_store::Store;
 use apex_types::{
