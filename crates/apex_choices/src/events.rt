@@ -12,10 +12,11 @@ ghost use Rattle.apex_machine.specs.Situations.{deed};
 ghost use Rattle.apex_pace.specs.Pace.{paced_opening, paced_step};
 
 use crate::counts::Counts;
+use crate::in_table::InTable;
 use crate::paced::PacedSituation;
 use apex_configs::Table;
 use apex_dispatch::{Deed, Situation};
-use apex_pace::Pace;
+use apex_pace::{Pace, may_turn, next_tick};
 use apex_store::PlainStore;
 use apex_types::{CoreId, Event, Notices};
 use std::alloc::{AllocError, Global};
@@ -38,15 +39,16 @@ impl PacedSituation {
         ensures value { result ≡ event_of pace table.now (paced_in self.now) choice }
         ensures range { IfSome result (IsWithin table.now.cores) }
     {
+        let here = InTable { paced: self, table };
         if choice < u32::from(table.cores()) {
             let core = CoreId::new(choice as u8);
-            if self.may_turn(pace, table, core) {
+            if may_turn(&here, pace, core) {
                 Some(Event::Turn(core))
             } else {
                 None
             }
         } else {
-            match self.next_tick(pace, table) {
+            match next_tick(&here, pace) {
                 Some(n) => Some(Event::Tick(n)),
                 None => None,
             }

@@ -4,8 +4,8 @@
 
 mod counts;
 mod events;
+mod in_table;
 mod paced;
-mod ticks;
 
 pub use counts::Counts;
 pub use paced::PacedSituation;

@@ -1,13 +1,14 @@
 -- The first schedule keeps the pace.
-use Rattle.std.proofs.Common.{◌≡◌, ◌∙◌, ℕ, zero, suc, ◌+◌, ◌-◌, ◌≤◌, Bool, true, false, List, [], ◌∷◌, ◌++◌, Option, None, Some, ◌⊎◌, inl, inr, refl, sym, ap, arith, nat_lt, append_assoc, append-nil, le_refl, if◌then◌else◌, lt-ltb, true≢false, ltb-false, eq-eqb}
+use Rattle.std.proofs.Common.{◌≡◌, ◌∙◌, ℕ, zero, suc, ◌+◌, ◌-◌, ◌<◌, ◌≤◌, Bool, true, false, List, [], ◌∷◌, ◌++◌, Option, None, Some, ◌⊎◌, inl, inr, refl, sym, ap, subst, arith, nat_lt, append_assoc, append-nil, le_refl, if◌then◌else◌, lt-ltb, ltb-true, true≢false, ltb-false, eq-eqb}
 use Rattle.std.proofs.lemmas.Bool.{and_from, and_parts}
 use Rattle.apex_types.specs.declared.entries.Event.TheVariants.{Turn, Tick}
 use Rattle.apex_machine.specs.table.Table.{Table}
 use Rattle.apex_machine.specs.processes.Dues.{is_instant}
 use Rattle.apex_pace.specs.First.{Part, closing, part, round, rounds, takes_turn, turns_or_tick}
-use Rattle.apex_pace.specs.Laws.{IsCutShort}
+use Rattle.apex_pace.specs.Laws.{IsCutShort, IsServed}
 use Rattle.apex_pace.specs.Pace.{KeepsPace, Paced, may_turn, next_tick, paced_run, paced_step}
 use Rattle.apex_pace.specs.Terms.{Event, Pace}
+use Rattle.apex_pace.proofs.Times.{tick_passes}
 
 -- what holds of each branch holds of an if
 on_if : {X : Type 0} (P : X → Type 0) (b : Bool) (x y : X) → (b ≡ true → P x) → (b ≡ false → P y) → P (if b then x else y)
@@ -35,36 +36,51 @@ module _ (pace : Pace) (table : Table) where
       ))
       (λ waits. left)
 
-  -- the events keep the pace, but for their last tick, which stops sooner
-  abbrev Keeps : Paced → List Event → Type 0
-  Keeps s events = KeepsPace pace table s events ⊎ IsCutShort pace table s events
-
-  -- a part keeps the pace, and cuts the last tick only if the schedule ends with it
-  abbrev Fits : Paced → Part → Type 0
-  Fits s p = (p.ends ≡ false → KeepsPace pace table s p.events) × (p.ends ≡ true → Keeps s p.events)
+  -- to go on with the rest after the first events is to go through all of them
+  run_append : (s : Paced) (first rest : List Event)
+      → paced_run table s (first ++ rest) ≡ paced_run table (paced_run table s first) rest
+  run_append s [] rest = refl
+  run_append s (event ∷ first) rest = run_append (paced_step table s event) first rest
 
   module _ (until : ℕ) where
-    closing_fits : (s : Paced) (n : Option ℕ) → next_tick pace table s ≡ n → Fits s (closing until s n)
-    closing_fits s None e = ((λ h. tt), λ h. inl tt)
-    closing_fits s (Some n) e =
+    -- the events keep the pace, but for their last tick, which is cut short
+    abbrev Keeps : Paced → List Event → Type 0
+    Keeps s events = KeepsPace pace table s events ⊎ IsCutShort pace table until s events
+
+    -- a part keeps the pace, and cuts the last tick only if the schedule ends with it
+    abbrev Fits : Paced → Part → Type 0
+    Fits s p = (p.ends ≡ false → KeepsPace pace table s p.events) × (p.ends ≡ true → Keeps s p.events)
+
+    closing_fits : (s : Paced) → s.situation.roster.now < until → (n : Option ℕ) → next_tick pace table s ≡ n
+        → Fits s (closing until s n)
+    closing_fits s before None e = ((λ h. tt), λ h. inl tt)
+    closing_fits s before (Some n) e =
         let allowed : is_instant n (next_tick pace table s) ≡ true = rw (e, eq-eqb n n refl) refl in
         on_if (Fits s) (nat_lt (s.situation.roster.now + n) until) _ _
         (λ sooner. ((λ h. (allowed, tt)), λ h. absurd (true≢false (sym h))))
         (λ later. (
           (λ h. absurd (true≢false h)),
-          λ h. inr (record {
-            earlier = [];
-            ticks = until - s.situation.roster.now;
-            whole = n;
-            cut = refl;
-            sooner = omega (arith, ltb-false (s.situation.roster.now + n) until later);
-            keeps = (allowed, tt);
-          }),
+          λ h.
+              let ticks = until - s.situation.roster.now in
+              let stops : s.situation.roster.now + ticks ≡ until = omega (arith, before) in
+              let sooner : ticks ≤ n = omega (arith, ltb-false (s.situation.roster.now + n) until later) in
+              inr (record {
+                earlier = [];
+                ticks = ticks;
+                whole = n;
+                cut = refl;
+                some = omega (arith, before);
+                sooner = sooner;
+                stops = stops;
+                time = λ served. tick_passes pace table s n ticks e sooner served ∙ stops;
+                keeps = (allowed, tt);
+              }),
         ))
 
-    part_fits : (s : Paced) (turns : List Event) → KeepsPace pace table s turns → Fits s (turns_or_tick pace table until s turns)
-    part_fits s [] kept = closing_fits s (next_tick pace table s) refl
-    part_fits s (turn ∷ turns) kept = ((λ h. kept), λ h. absurd (true≢false (sym h)))
+    part_fits : (s : Paced) → s.situation.roster.now < until → (turns : List Event) → KeepsPace pace table s turns
+        → Fits s (turns_or_tick pace table until s turns)
+    part_fits s before [] kept = closing_fits s before (next_tick pace table s) refl
+    part_fits s before (turn ∷ turns) kept = ((λ h. kept), λ h. absurd (true≢false (sym h)))
 
     -- the rest of a schedule after a part of it that keeps the pace
     then_keeps : (s : Paced) (first rest : List Event) → KeepsPace pace table s first
@@ -75,7 +91,12 @@ module _ (pace : Pace) (table : Table) where
       ticks = cut.ticks;
       whole = cut.whole;
       cut = ap (λ events. first ++ events) cut.cut ∙ sym (append_assoc first cut.earlier (Tick cut.ticks ∷ []));
+      some = cut.some;
       sooner = cut.sooner;
+      stops = ap (λ (after : Paced). after.situation.roster.now + cut.ticks) (run_append s first cut.earlier) ∙ cut.stops;
+      time = λ served.
+          ap (λ (after : Paced). after.situation.roster.now) (run_append s first rest)
+          ∙ cut.time (subst IsServed (run_append s first cut.earlier) served);
       keeps = rw (append_assoc first cut.earlier (Tick cut.whole ∷ []))
           (keeps_append s first (cut.earlier ++ Tick cut.whole ∷ []) kept cut.keeps);
     })
@@ -84,10 +105,12 @@ module _ (pace : Pace) (table : Table) where
     rounds_keep zero s = inl tt
     rounds_keep (suc n) s =
         let next = part pace table until s in
-        let fits = part_fits s (round pace table s table.cores) (round_keeps s table.cores (le_refl table.cores)) in
+        let turns = round_keeps s table.cores (le_refl table.cores) in
         let later = rounds_keep n (paced_run table s next.events) in
         on_if (Keeps s) (nat_lt s.situation.roster.now until) _ _
-        (λ on. on_if (λ (rest : List Event). Keeps s (next.events ++ rest)) next.ends _ _
+        (λ on.
+        let fits = part_fits s (ltb-true s.situation.roster.now until on) (round pace table s table.cores) turns in
+        on_if (λ (rest : List Event). Keeps s (next.events ++ rest)) next.ends _ _
         (λ ends. rw (append-nil next.events) (fits.1 ends))
         (λ goes. then_keeps s next.events _ (fits.0 goes) later))
         (λ over. inl tt)

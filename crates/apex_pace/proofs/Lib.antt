@@ -5,4 +5,5 @@ pub mod Cores
 pub mod Eager
 pub mod Ends
 pub mod Tighter
+pub mod Times
 pub mod First

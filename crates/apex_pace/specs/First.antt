@@ -6,8 +6,8 @@ use Rattle.apex_pace.specs.Terms.{Event, Pace}
 use Rattle.apex_types.specs.declared.entries.Event.TheVariants.{Turn, Tick}
 use Rattle.apex_machine.specs.table.Table.{Table}
 
--- the core takes a turn in a round: it may, is not at work, so that work ends as late as it may, and
--- has not had all its turns since the last tick
+-- the core takes a turn in a round: it may, and if the partition is not starting it is not at work, so
+-- that work ends as late as it may, and has not had all its turns since the last tick
 abbrev pub takes_turn : Pace → Table → Paced → ℕ → Bool
 takes_turn pace table s core =
     may_turn pace table s core

@@ -1,30 +1,41 @@
 -- What holds of every pace.
-use Rattle.std.specs.Prelude.{◌≡◌, ℕ, ◌*◌, ◌<◌, ◌≤◌, true, false, List, [], ◌∷◌, ◌++◌, length, ◌⊎◌, is_some}
+use Rattle.std.specs.Prelude.{◌≡◌, ℕ, ◌+◌, ◌*◌, ◌<◌, ◌≤◌, true, false, List, [], ◌∷◌, ◌++◌, length, ◌⊎◌, is_some}
 use Rattle.apex_pace.specs.First.{first_schedule}
-use Rattle.apex_pace.specs.Pace.{IsAtRest, KeepsPace, Paced, all_cores, is_allowed, is_settled, is_starting, may_turn, next_tick, paced_opening, paced_step}
+use Rattle.apex_pace.specs.Pace.{IsAtRest, KeepsPace, Paced, all_cores, is_allowed, is_settled, is_starting, may_turn, next_tick, paced_opening, paced_run, paced_step}
 use Rattle.apex_pace.specs.Terms.{Event, Pace}
 use Rattle.apex_types.specs.declared.entries.Event.TheVariants.{Turn, Tick}
 use Rattle.apex_machine.specs.Situations.{deed}
+use Rattle.apex_machine.specs.processes.Dues.{IsFrom, next_instant}
 use Rattle.apex_machine.specs.table.Table.{Table}
 
 -- work takes no more than all of its ticks
 abbrev pub IsPace : Pace → Type 0
 IsPace pace = pace.percent ≤ 100
 
--- the events keep the pace, but for their last tick, which stops sooner
-pub record IsCutShort (pace : Pace) (table : Table) (s : Paced) (events : List Event) : Type 0 where
+-- no due and no deadline is left up to the present time
+abbrev pub IsServed : Paced → Type 0
+IsServed s = IsFrom (s.situation.roster.now + 1) (next_instant s.situation.roster)
+
+-- the events keep the pace, but for their last tick: the pace has a longer one there, and this one
+-- goes from the time before it to `until`; that is then the time, if nothing was left to be served
+pub record IsCutShort (pace : Pace) (table : Table) (until : ℕ) (s : Paced) (events : List Event) :
+    Type 0 where
   pub earlier : List Event
   pub ticks : ℕ
   pub whole : ℕ
   pub cut : events ≡ earlier ++ Tick ticks ∷ []
+  pub some : 1 ≤ ticks
   pub sooner : ticks ≤ whole
+  pub stops : (paced_run table s earlier).situation.roster.now + ticks ≡ until
+  pub time : IsServed (paced_run table s earlier)
+      → (paced_run table s events).situation.roster.now ≡ until
   pub keeps : KeepsPace pace table s (earlier ++ Tick whole ∷ [])
 
--- the first schedule keeps the pace; its last tick may stop sooner, at the time that was asked for
+-- the first schedule keeps the pace; its last tick may be cut short, to the time that was asked for
 abbrev pub FirstKeepsPace : Pace → Table → ℕ → Type 0
 FirstKeepsPace pace table until =
     KeepsPace pace table (paced_opening table) (first_schedule pace table until)
-    ⊎ IsCutShort pace table (paced_opening table) (first_schedule pace table until)
+    ⊎ IsCutShort pace table until (paced_opening table) (first_schedule pace table until)
 
 -- each event is a turn, after COLD_START, of a core that is not settled
 abbrev pub AreEager : Pace → Table → Paced → List Event → Type 0

@@ -5,8 +5,9 @@ ghost use Rattle.apex_pace.specs.Laws.{AllowsNoMore, FirstKeepsPace, IsPace, IsT
 ghost use Rattle.apex_pace.specs.Terms.{Pace};
 ghost use Rattle.apex_pace.specs.Pace.{Paced};
 
-/// The first schedule of a pace keeps the pace, but for its last tick, which stops at the time that
-/// was asked for.
+/// The first schedule of a pace keeps the pace, but for its last tick, which may be cut short: it
+/// then goes from the time before it to the time that was asked for. It stops there, unless a due or
+/// a deadline was left to be served before it.
 pub fn first_schedule_keeps_the_pace()
     ensures { (pace : Pace) (table : Table) (until : ℕ) → FirstKeepsPace pace table until }
 {}

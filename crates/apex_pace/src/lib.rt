@@ -4,8 +4,10 @@
 
 mod laws;
 mod paces;
+mod pacing;
 
 pub use laws::{
     first_schedule_keeps_the_pace, no_turn_is_idle, tighter_paces_allow_no_more, time_goes_on,
 };
-pub use paces::{Pace, USUAL_TURNS};
+pub use paces::{Pace, USUAL_TURNS, limits_of_the_profile};
+pub use pacing::{AtPace, may_turn, next_tick, takes_turn};

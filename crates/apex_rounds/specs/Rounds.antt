@@ -58,8 +58,8 @@ tick_from r until = closing until (paced_in r) (next_tick r.pace r.kernel.table 
 abbrev pub part_from : {S : Type 0} → RoundsState S → ℕ → Part
 part_from r until = part r.pace r.kernel.table until (paced_in r)
 
--- the first schedule from here up to a time, with one event more than the history has room for if
--- the schedule does not end before
+-- the first schedule from here up to a time, with more events than the history has room for if the
+-- schedule does not end before
 abbrev pub schedule_from : {S : Type 0} → RoundsState S → ℕ → List Event
 schedule_from r until = rounds r.pace r.kernel.table until (r.kernel.table.limit + 1) (paced_in r)
 

@@ -1,9 +1,8 @@
 //! Runs a table without a schedule: the first schedule of a pace, up to a time.
 #![tactic(auto)]
 
-mod cores;
+mod at_pace;
 mod counts;
 mod rounds;
-mod ticks;
 
 pub use rounds::Rounds;

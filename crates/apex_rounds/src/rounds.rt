@@ -1,14 +1,15 @@
 //! A kernel that runs at a pace.
-ghost use Rattle.std.specs.Prelude.{◌≡◌, ◌<◌, ◌≤◌, [], ◌∷◌, not, IfErr, IfOk};
+ghost use Rattle.std.specs.Prelude.{◌≡◌, ◌<◌, ◌≤◌, [], ◌∷◌, not, IfErr, IfOk, IfSome};
 ghost use Rattle.apex_types.specs.declared.entries.Event.TheVariants.{Turn, Tick};
 ghost use Rattle.apex_types.specs.declared.limits.TheConstants.{MOST_TICKS};
 ghost use Rattle.apex_machine.specs.Machine.{opening, run};
-ghost use Rattle.apex_pace.specs.First.{first_schedule};
-ghost use Rattle.apex_rounds.specs.Rounds.{IsAtOpening, Makes, is_any, part_from, schedule_from, tick_from, turns_from};
+ghost use Rattle.apex_pace.specs.First.{first_schedule, takes_turn};
+ghost use Rattle.apex_pace.specs.Pace.{next_tick};
+ghost use Rattle.apex_rounds.specs.Rounds.{IsAtOpening, Makes, is_any, paced_in, part_from, schedule_from, tick_from, turns_from};
 
 use crate::counts::Counts;
 use apex_dispatch::Kernel;
-use apex_pace::Pace;
+use apex_pace::{AtPace, Pace, next_tick, takes_turn};
 use apex_store::Store;
 use apex_types::{CoreId, Event, Full};
 use std::marker::Model;
@@ -61,6 +62,24 @@ impl<S: Store> Rounds<S> {
     {
         let Rounds { kernel, .. } = self;
         kernel
+    }
+
+    /// The core takes a turn in a round.
+    fn takes_turn(&self, core: CoreId) -> bool
+        ensures { result
+            ≡ takes_turn self.now.pace self.now.kernel.table (paced_in self.now) core }
+    {
+        takes_turn(self, self.pace, core)
+    }
+
+    /// The tick that may come.
+    fn next_tick(&self) -> Option<u32>
+        ensures value { result
+            ≡ next_tick self.now.pace self.now.kernel.table (paced_in self.now) }
+        ensures range { IfSome result (λ n. (1 ≤ n) × (n ≤ MOST_TICKS)) }
+    {
+        self.kernel.holds();
+        next_tick(self, self.pace)
     }
 
     /// A turn of the core, and what the pace counts after it. `Full` if the history has no room for

@@ -1,23 +1,12 @@
 //! When waits end by themselves and deadlines pass.
 ghost use Rattle.std.specs.Prelude.{◌≡◌, ◌<◌, ◌≤◌, length, position, IfSome};
 ghost use Rattle.apex_types.specs.declared.limits.TheConstants.{MOST_PROCESSES};
-ghost use Rattle.apex_machine.specs.processes.Dues.{HasTime, IsFrom, due_after, earliest, is_due_at, is_missed_at, sooner};
+ghost use Rattle.apex_machine.specs.processes.Dues.{HasTime, IsFrom, due_after, earliest, is_due_at, is_missed_at};
 
 use crate::orders::{is_due_at, is_missed_at};
 use crate::store::Store;
-use apex_machine::Record;
+use apex_machine::{Record, sooner};
 use apex_types::{ProcessId, Timeout};
-
-/// The sooner of two instants.
-fn sooner(one: Option<u64>, other: Option<u64>) -> Option<u64>
-    ensures { result ≡ sooner one other }
-{
-    match (one, other) {
-        (Some(one), Some(other)) => Some(one.min(other)),
-        (Some(one), None) => Some(one),
-        (None, other) => other,
-    }
-}
 
 /// The least due or deadline of the records, by a scan from the last one down.
 pub fn earliest(records: &[Record]) -> Option<u64>

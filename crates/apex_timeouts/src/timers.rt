@@ -4,6 +4,7 @@ ghost use Rattle.apex_machine.specs.processes.Dues.{sooner};
 ghost use Rattle.apex_timeouts.specs.Timeline.{due_at, empty_line, next_of, without_due_at, IsReset, IsTimed};
 
 use crate::timeline::Timeline;
+use apex_machine::sooner;
 use apex_types::ProcessId;
 use std::alloc::{AllocError, Global};
 use std::marker::Model;
@@ -76,11 +77,7 @@ impl Timers {
     pub fn next_instant(&self) -> Option<u64>
         ensures { result ≡ sooner (next_of self.now.dues) (next_of self.now.deadlines) }
     {
-        match (self.dues.next_instant(), self.deadlines.next_instant()) {
-            (Some(due), Some(deadline)) => Some(due.min(deadline)),
-            (Some(due), None) => Some(due),
-            (None, deadline) => deadline,
-        }
+        sooner(self.dues.next_instant(), self.deadlines.next_instant())
     }
 
     /// Takes the first process off the line of dues if this is its due.
