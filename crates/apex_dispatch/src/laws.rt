@@ -3,6 +3,7 @@
 ghost use Rattle.std.specs.Prelude.{All};
 ghost use Rattle.apex_machine.specs.processes.Dues.{HasNoPastDeadline, HasNoPastDue};
 ghost use Rattle.apex_store.specs.Laws.{RunsMostUrgent, FirstWaiterIsFirst};
+ghost use Rattle.apex_laws.specs.Delivery.{GivesMessagesInOrder};
 ghost use Rattle.apex_laws.specs.Laws.{AreInRange, IsWithinItsMaximum, MutexesAreOwnedInOrder, NobodyWaitsInVain, WasNeverLater};
 
 use crate::kernels::Kernel;
@@ -40,8 +41,20 @@ pub fn values_and_dues_are_in_range<S: Store>(kernel: &Kernel<S>)
     kernel.holds();
 }
 
-/// In every kernel each message that was sent to a buffer comes out once and in order, no buffer
-/// holds more than it has room for, and no process waits for an object that has what it waits for.
+/// In every kernel a receive that the next turn of a core answers with a message gives the next one
+/// of its buffer: the first receive gives the first message that was sent, the second the second, and
+/// so on. A process that waits to receive is woken with NO_ERROR at the next event only by a send to
+/// its buffer; it gets the message of that send, and each message sent before had been received. A
+/// send wakes no other process with NO_ERROR (ARINC 653 Part 1, buffers).
+pub fn messages_come_in_order<S: Store>(kernel: &Kernel<S>)
+    ensures { GivesMessagesInOrder kernel.now.table kernel.now.machine }
+{
+    kernel.holds();
+}
+
+/// In every kernel no more receives from a buffer are satisfied than messages were sent to it, no
+/// buffer holds more than it has room for, and no process waits for an object that has what it waits
+/// for.
 pub fn nobody_waits_in_vain<S: Store>(kernel: &Kernel<S>)
     ensures { NobodyWaitsInVain kernel.now.table kernel.now.machine }
 {

@@ -21,7 +21,7 @@ use Rattle.apex_machine.specs.processes.Running.{is_eligible}
 use Rattle.apex_machine.proofs.InTurn.{holds_in_turn}
 use Rattle.apex_machine.proofs.Starts.{first_stands, queue_itself, waits_there}
 use Rattle.apex_laws.specs.AskedWaits.{begins, asked_of, or_suspended, awaited, AreHeldBack}
-use Rattle.apex_laws.proofs.Satisfied.{Asks, AwaitsAt, begins_named, is_waking, wakes}
+use Rattle.apex_laws.proofs.Satisfied.{Asks, AwaitsAt, WokenAt, WokenBy, begins_named, is_waking, wakes}
 use Rattle.apex_laws.proofs.Truths.{and_true, or_false}
 
 -- the wait that a process asked for, after a change of the record of process p
@@ -95,6 +95,16 @@ frees_none roster = record { still = λ q w h. h }
 
 pub frees_then : {first second third : Roster} → Frees first second → Frees second third → Frees first third
 frees_then f g = record { still = λ q w h. f.still q w (g.still q w h) }
+
+-- a process that is woken afterwards waited before, too
+pub woken_before : {old new : Roster} → Frees old new → (called : Option Call) (q : ℕ) → WokenBy called (record_at new q)
+    → WokenBy called (record_at old q)
+woken_before {old} {new} frees called q woken = (woken.0, before, woken.2) where
+  before : WokenAt woken.0 (record_at old q)
+  before = elim woken.1 [
+    | inl waits ↦ inl (waits.0, frees.still q waits.0 waits.1, waits.2)
+    | inr waits ↦ inr (waits.0, (waits.1.0, frees.still q waits.1.0 waits.1.1, waits.1.2))
+  ]
 
 -- a process's record changes, and it waits for no more than before
 pub frees_moved : (old new : Roster) (p : ℕ) (r : Record) → new.records ≡ set old.records p r

@@ -39,7 +39,7 @@ use Rattle.apex_laws.proofs.ObjectsServe.{LawsOf, then_some}
 use Rattle.apex_laws.proofs.Truths.{or_false, other}
 use Rattle.apex_laws.proofs.WaitedServe.{Before, KeepsWaited, Served, Waited, after_calls, calls_before, guard, object_before, served_alone, served_refused, served_waiting, value_before, waited_laws}
 
--- each message is delivered once and in order, and a buffer holds no more than it has room for
+-- no more messages are received than were sent, and a buffer holds no more than it has room for
 pub record HoldsBuffer (entry : BufferConfig) (calls : List Call) (content : List Message) : Type 0 where
   pub delivered : IsDelivered calls content
   pub fits : length content ≤ entry.capacity
@@ -75,7 +75,7 @@ abbrev pub KeepsBuffer : Roster → List Entry → ℕ → BufferConfig → Type
 KeepsBuffer = KeepsWaited waited_buffer
 
 -- a process in the queue of buffer b receives, or sends
-receiver_wait : (b : ℕ) (w : Wait) → queue_of w ≡ Some (queues.Buffer b) → is_receiver (Some w) ≡ true → w ≡ Receive b
+pub receiver_wait : (b : ℕ) (w : Wait) → queue_of w ≡ Some (queues.Buffer b) → is_receiver (Some w) ≡ true → w ≡ Receive b
 receiver_wait b (Receive c) is h = let same : c ≡ b = cc in ap Receive same
 receiver_wait b _ is h = cc
 

@@ -1,7 +1,8 @@
 -- After each service and each tick the objects that it leaves are those that the history then
 -- gives.
-use Rattle.std.proofs.Common.{◌≡◌, ℕ, ◌<◌, true, false, List, [], ◌∷◌, ◌++◌, length, get_or, Option, None, Some, refl}
+use Rattle.std.proofs.Common.{◌≡◌, ℕ, ◌<◌, true, false, List, [], ◌∷◌, ◌++◌, length, get_or, Option, None, Some, option_and_then, refl, ◌∙◌}
 use Rattle.std.proofs.lemmas.Bool.{both_ways}
+use Rattle.std.proofs.lemmas.Option.{none-some}
 use Rattle.apex_laws.specs.Premises.{most_given}
 use Rattle.apex_laws.specs.Terms.{Call, Caller, Entry, Notice, ObjectCall, Queue, Reply, Who}
 use Rattle.apex_types.specs.declared.calls.Call.TheVariants.{Partition, Process as ToProcess, Caller as ToCaller, Time as ToTime, Semaphore as ToSemaphore, Buffer as ToBuffer, Blackboard as ToBlackboard, EventFlag as ToEventFlag, Mutex as ToMutex, Work as ToWork}
@@ -27,10 +28,10 @@ use Rattle.apex_laws.proofs.BlackboardsServe.{KeepsBlackboard, blackboard_laws, 
 use Rattle.apex_laws.proofs.BuffersServe.{KeepsBuffer, buffer_laws, waited_buffer}
 use Rattle.apex_laws.proofs.EventFlagsServe.{KeepsEventFlag, event_flag_laws, waited_event}
 use Rattle.apex_laws.proofs.MutexesServe.{mutex_laws}
-use Rattle.apex_laws.proofs.ObjectsServe.{AreRead as AreReadOf, LawsOf, all_elsewhere, all_served, all_uncalled, entry_with, far_then}
+use Rattle.apex_laws.proofs.ObjectsServe.{AreRead as AreReadOf, LawsOf, all_elsewhere, all_served, all_uncalled, entry_with, far_then, named_there}
 use Rattle.apex_laws.proofs.OthersServe.{ServesNone, served_partition, served_caller, served_time, served_work}
 use Rattle.apex_laws.proofs.ProcessesServe.{process_laws}
-use Rattle.apex_laws.proofs.Satisfied.{Asks, IsIdle, WokenAt, asked-push, is_near, near_none, wakes}
+use Rattle.apex_laws.proofs.Satisfied.{Asks, IsIdle, WokenAt, WokenBy, asked-push, is_near, near_none, wakes}
 use Rattle.apex_laws.proofs.SemaphoresServe.{KeepsSemaphore, semaphore_laws, waited_semaphore}
 use Rattle.apex_laws.proofs.Serving.{Scene, Serves}
 use Rattle.apex_laws.proofs.WaitedServe.{keeps_freed}
@@ -81,10 +82,12 @@ pub record IsExact (table : Table) (history : List Entry) (e : Entry) (left : Ob
   pub kept : AreKept table roster (history ++ e ∷ [])
 
 -- the duties of a service: it arrives at the roster that it leaves, each process that waits there
--- asked for its wait, and the objects are exact
+-- asked for its wait, each that it wakes waited for what its call names, for time or for a mutex, and
+-- the objects are exact
 pub record ServesCall (table : Table) (history : List Entry) (roster : Roster) (caller : Caller) (call : Call) (o : Outcome Objects) : Type 0 where
   pub arrives : Arrives most_given roster o.roster
   pub asks : Asks caller (Some call) roster o.roster
+  pub woken : (q : ℕ) → wakes q o.notices ≡ true → WokenBy (Some call) (record_at roster q)
   pub exact : (number now : ℕ) (who : Who)
       → IsExact table history (entry_with number now who caller call o.reply o.notices) o.object o.roster
 
@@ -171,6 +174,7 @@ module _ (table : Table) (history : List Entry) (roster : Roster) (kept : AreKep
     serves_none call o none unnamed uncreated = record {
       arrives = none.serves.arrives;
       asks = none.serves.asks;
+      woken = λ q waking. (None, none.serves.woken q waking, λ queue is. absurd (none-some queue is));
       exact = λ number now who.
           let e = entry_with number now who caller call o.reply o.notices in
           rw none.stays (exact_from e before o.roster
@@ -203,6 +207,11 @@ module _ (table : Table) (history : List Entry) (roster : Roster) (kept : AreKep
           record {
             arrives = all.serves.arrives;
             asks = all.serves.asks;
+            woken = λ q waking. (
+              option_and_then laws.at object,
+              all.serves.woken q waking,
+              λ queue is. laws.named call ∙ named_there laws object queue is,
+            );
             exact = λ number now who. exact_from _ _ _
                 (read _ _ _ (all.read number now who)
                 (λ k is. kind_stays (laws.to call) _ _ _ _ all.serves number now who k (record {

@@ -1,4 +1,5 @@
--- The messages that a buffer delivered, and those that it holds, after calls of it.
+-- The messages that a buffer holds after calls of it: those that were sent, without the first ones,
+-- one for each receive.
 use Rattle.std.proofs.Common.{◌≡◌, ◌+◌, true, false, if◌then◌else◌, drop, length, count_by, List, [], ◌∷◌, ◌++◌, None, Some, sym, ◌∙◌, arith, append_assoc, append-nil, length-append}
 use Rattle.std.specs.List.{filter_map}
 use Rattle.std.proofs.Math.Seq.{drop-append_seam}
@@ -7,8 +8,8 @@ use Rattle.std.proofs.lemmas.List.Sums.{sum_by-append}
 use Rattle.apex_laws.specs.Terms.{Call, Message}
 use Rattle.apex_machine.specs.services.Calls.{is_receive, sent_message}
 
--- the messages that were sent are those that were delivered, one for each receive, and then those
--- that it holds
+-- the messages that were sent are first as many as were received, and then those that the buffer
+-- holds
 pub record IsDelivered (calls : List Call) (content : List Message) : Type 0 where
   pub taken : List Message
   pub many : length taken ≡ count_by is_receive calls

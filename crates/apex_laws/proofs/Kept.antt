@@ -2,7 +2,9 @@
 use Rattle.std.proofs.Common.{◌≡◌, ◌≤◌, ◌∙◌, ap, subst, sym}
 use Rattle.apex_machine.specs.Machine.{Machine, events_of, opening, replay, run}
 use Rattle.apex_machine.specs.table.Table.{Table, IsLawful}
+use Rattle.apex_laws.specs.Delivery.{GivesMessagesInOrder}
 use Rattle.apex_laws.specs.Laws.{AreInRange, MutexesAreOwnedInOrder, NobodyWaitsInVain, WasNeverLater}
+use Rattle.apex_laws.proofs.InOrder.{gives_in_order}
 use Rattle.apex_laws.proofs.InVain.{none_in_vain}
 use Rattle.apex_laws.proofs.OwnedInOrder.{owned_in_order}
 use Rattle.apex_laws.proofs.Runs.{run-append}
@@ -26,6 +28,9 @@ module _ (table : Table) (machine : Machine) (lawful : IsLawful table) (replays 
 
   pub never_in_vain : NobodyWaitsInVain table machine
   never_in_vain = none_in_vain table machine sound.orderly.kept
+
+  pub given_in_order : GivesMessagesInOrder table machine
+  given_in_order = gives_in_order table lawful machine sound
 
   pub always_in_order : MutexesAreOwnedInOrder table machine
   always_in_order = owned_in_order table machine sound.orderly.rules sound.orderly.owners

@@ -30,6 +30,9 @@ pub mod Unbroken
 pub mod InPeriods
 pub mod HardMisses
 pub mod InVain
+pub mod CarriedOut
+pub mod WokenToReceive
+pub mod InOrder
 pub mod OwnedInOrder
 pub mod States
 pub mod Queued

@@ -1,6 +1,7 @@
 -- Mutexes as objects of a kind: the facts that their services keep.
 use Rattle.std.proofs.Common.{◌≡◌, ℕ, ◌+◌, ◌-◌, ◌≤◌, Bool, true, false, ◌&&◌, cond, not, nat_le, nat_lt, List, [], ◌∷◌, ◌++◌, length, Option, None, Some, lit≤, refl, sym, ◌∙◌, ap, arith, inr}
 use Rattle.std.proofs.lemmas.Bool.{both_ways, cond_both, leb-false, ltb-true}
+use Rattle.std.proofs.lemmas.Option.{none-some}
 use Rattle.apex_laws.specs.Terms.{Call, Caller, Entry, Holding, MutexService, Notice, Reply, ReturnCode, Timeout}
 use Rattle.apex_types.specs.declared.calls.Call.TheVariants as call
 use Rattle.apex_types.specs.declared.entries.Caller.TheVariants.{Process}
@@ -55,7 +56,7 @@ pub status_plain : (roster : Roster) (m : ℕ) (found : Option ℕ) → is_satis
 status_plain roster m None = refl
 status_plain roster m (Some p) = refl
 
--- what the guards leave of a caller that does not own the mutex: if it would wait it owns none, and it may
+-- what the guards leave of a caller that does not own the mutex: unless its timeout is 0 it owns none, and it may
 -- own more
 may_wait_then : (owns none poll : Bool) → (not owns && not none && not poll) ≡ false → owns ≡ false → poll ≡ false → none ≡ true
 may_wait_then owns true poll e apart waits = refl
@@ -207,6 +208,7 @@ mutex_laws = record {
   created = λ call. refl;
   named = λ call. then_some queues.Mutex (object_of call);
   differs = λ j i apart. (refl, refl);
+  itself = λ i own is. absurd (none-some own is);
   unlike = λ j m. refl;
   status = λ roster x i. status_plain roster i (owner roster i);
   stays = λ old new history e m entry keeps quiet still. mutex_stays new history e m entry quiet.create;

@@ -111,6 +111,8 @@ pub record LawsOf {C X W : Type 0} (kind : ObjectKind C X W) : Type 1 where
   pub created : (call : ObjectCall ℕ W) → creation (to call) ≡ creation_of call
   pub named : (call : ObjectCall ℕ W) → queue_named (to call) ≡ option_and_then queue (object_of call)
   pub differs : (j i : ℕ) → j ≢ i → (is_near (at j) (queue i) ≡ false) × (is_near (at j) (at i) ≡ false)
+  -- the queue in which processes wait for an object is that which its calls name
+  pub itself : (i : ℕ) (own : Queue) → at i ≡ Some own → queue i ≡ Some own
   pub unlike : (j m : ℕ) → is_near (at j) (Some (queues.Mutex m)) ≡ false
   pub status : (roster : Roster) (x : X) (i : ℕ) → is_satisfied (kind.status roster x i) ≡ false
   pub stays : (old new : Roster) (history : List Entry) (e : Entry) (i : ℕ) (c : C) → Keeps old history i c
@@ -227,6 +229,11 @@ module _ {C X W : Type 0} (kind : ObjectKind C X W) (laws : LawsOf kind) (histor
 -- the queue of the processes that a call on this object may wake
 abbrev pub queue_at : {C X W : Type 0} {kind : ObjectKind C X W} → LawsOf kind → Option ℕ → Option Queue
 queue_at laws target = option_and_then laws.at target
+
+pub named_there : {C X W : Type 0} {kind : ObjectKind C X W} (laws : LawsOf kind) (target : Option ℕ) (own : Queue)
+    → queue_at laws target ≡ Some own → option_and_then laws.queue target ≡ Some own
+named_there laws None own is = absurd (none-some own is)
+named_there laws (Some i) own is = laws.itself i own is
 
 -- all objects of a kind, read off a history that keeps the facts about each
 module _ {C X W : Type 0} (kind : ObjectKind C X W) (laws : LawsOf kind) (history : List Entry) (roster : Roster) (configs : List C)

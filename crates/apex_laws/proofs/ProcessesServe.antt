@@ -243,6 +243,7 @@ process_laws = record {
   created = λ call. refl;
   named = λ call. then_none (object_of call);
   differs = λ j i apart. (refl, refl);
+  itself = λ i own is. absurd (none-some own is);
   unlike = λ j m. refl;
   status = λ roster x i. refl;
   stays = λ old new history e p entry keeps quiet still. process_stays new history e p entry quiet.create;

@@ -120,6 +120,12 @@ BeginsAt at c = (w : Wait) × (begins c ≡ Some w) × (queue_of w ≡ at)
 abbrev pub WokenAt : Option Queue → Record → Type 0
 WokenAt at r = AwaitsAt at r ⊎ ((m : ℕ) × AwaitsAt (Some (queues.Mutex m)) r)
 
+-- a process that a deed with this call may wake: it waits for the object that the call names, for time
+-- or for a mutex
+abbrev pub WokenBy : Option Call → Record → Type 0
+WokenBy called r = (at : Option Queue) × WokenAt at r
+    × ((queue : Queue) → at ≡ Some queue → option_and_then queue_named called ≡ Some queue)
+
 -- the call that is answered then
 abbrev pub AnsweredAt : Option Queue → Call → Type 0
 AnsweredAt at c = BeginsAt at c ⊎ ((m : ℕ) × BeginsAt (Some (queues.Mutex m)) c)

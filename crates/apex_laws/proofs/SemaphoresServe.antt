@@ -104,7 +104,7 @@ module _ (here : Before waited_semaphore) where
   abbrev asks_for : SemaphoreService → Call
   asks_for service = call.Semaphore (KindService s service)
 
-  -- with this value no process of this roster waits for it in vain
+  -- if the value is this one, no process of this roster waits for the semaphore in vain
   abbrev HoldsBack : ℕ → Roster → Type 0
   HoldsBack v = AreHeldBack (waited_semaphore.Lacks here.c v) queue
 

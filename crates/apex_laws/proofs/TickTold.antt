@@ -132,6 +132,7 @@ tick_owes table history roster orderly few n times =
       arrives = arrives_of (reach_serve_instant advanced servable few);
       known = tt;
       asks = asks_freed Nobody None advanced (serve_instant advanced).roster served.frees;
+      woken = λ p waking. (None, served.woken p waking, λ queue is. absurd (none-some queue is));
       own = λ p by. absurd (both_ways false refl by);
       begun = λ work begun. absurd (none-some work begun);
       exact = exact_uncalled table history roster orderly.kept _ _ refl refl served.woken

@@ -30,10 +30,10 @@ use Rattle.apex_machine.proofs.Reaches.{Arrives, Reaches, arrives_of, arrives_th
 use Rattle.apex_machine.proofs.Modes.{normal_late}
 use Rattle.apex_machine.proofs.Starts.{chosen_core, chosen_ready, ready_step, runnable}
 use Rattle.apex_laws.specs.AskedWaits.{asked_of, or_suspended, awaited}
-use Rattle.apex_laws.proofs.AskedWaits.{Frees, asks_freed, asks_later, frees_moved, frees_none}
+use Rattle.apex_laws.proofs.AskedWaits.{Frees, asks_freed, asks_later, frees_moved, frees_none, woken_before}
 use Rattle.apex_laws.proofs.CallsServe.{AreKept, IsExact, serves_call, serves_none, exact_uncalled, work_creates, kept_freed}
 use Rattle.apex_laws.proofs.Known.{known_script_step}
-use Rattle.apex_laws.proofs.Satisfied.{Asks, IsIdle}
+use Rattle.apex_laws.proofs.Satisfied.{Asks, IsIdle, WokenBy, wakes}
 use Rattle.apex_laws.proofs.OthersServe.{ServesNone}
 use Rattle.apex_laws.proofs.Serving.{Scene, serves_freed}
 
@@ -92,12 +92,14 @@ pub record IsAtWork (roster : Roster) (core p : ℕ) : Type 0 where
   pub late : is_cold_start roster.mode ≡ false
 
 -- the duties of a deed then: it arrives at the roster that it leaves, its call is the table's, each
--- process that waits asked for its wait, its caller is of the core, a process that begins work is
--- at work there, and all facts stay kept
+-- process that waits asked for its wait, each that it wakes waited for what its call names, for time
+-- or for a mutex, its caller is of the core, a process that begins work is at work there, and all
+-- facts stay kept
 pub record Owes (table : Table) (history : List Entry) (old : Roster) (who : Who) (deed : Deed) : Type 0 where
   pub arrives : Arrives most_given old deed.outcome.roster
   pub known : IfSome deed.call (IsKnown table)
   pub asks : Asks deed.caller deed.call old deed.outcome.roster
+  pub woken : (p : ℕ) → wakes p deed.outcome.notices ≡ true → WokenBy deed.call (record_at old p)
   pub own : (p : ℕ) → is_by_process p deed.caller ≡ true → is_turn_of (record_at old p).core who ≡ true
   pub begun : (work : Work) → work_begun deed.caller deed.call deed.outcome.reply ≡ Some work → (core : ℕ) → is_turn_of core who ≡ true
       → IsAtWork deed.outcome.roster core work.process
@@ -155,6 +157,7 @@ module _ (table : Table) (lawful : IsLawful table) (history : List Entry) (core 
         arrives = serves.arrives;
         known = known;
         asks = serves.asks;
+        woken = serves.woken;
         own = λ p by. eq-eqb _ _ (sym (own p by));
         begun = λ work e c here. rw (eqb-true c core here) (begins_work roster caller ready own call work e);
         exact = serves.exact (length history + 1) (service roster objects caller call).roster.now (Core core);
@@ -196,6 +199,7 @@ module _ (table : Table) (lawful : IsLawful table) (history : List Entry) (core 
           arrives = arrives_then 0 most_given reaches (λ q. started_step roster p next ready.known q) owes.arrives;
           known = owes.known;
           asks = asks_later frees owes.asks;
+          woken = λ q waking. woken_before frees (Some call) q (owes.woken q waking);
           own = λ q by. ap (λ (c : ℕ). c == core) (sym (cores q)) ∙ owes.own q by;
           begun = owes.begun;
           exact = owes.exact;
@@ -215,6 +219,7 @@ module _ (table : Table) (lawful : IsLawful table) (history : List Entry) (core 
       arrives = arrives_of (reaches_none most_given roster);
       known = tt;
       asks = asks_freed Nobody None roster roster (frees_none roster);
+      woken = λ p waking. absurd (both_ways false refl waking);
       own = λ p by. absurd (both_ways false refl by);
       begun = λ work e. absurd (none-some work e);
       exact = exact_uncalled table history roster orderly.kept roster _ refl refl
@@ -247,6 +252,7 @@ module _ (table : Table) (lawful : IsLawful table) (history : List Entry) (core 
             arrives = serves.arrives;
             known = tt;
             asks = serves.asks;
+            woken = serves.woken;
             own = λ q by. eq-eqb _ _ (ap (λ (k : ℕ). (record_at roster k).core) (eqb-true q p by) ∙ at.bound);
             begun = λ w e. absurd (ends w e);
             exact = serves.exact (length history + 1) new.now (Core core);

@@ -250,6 +250,7 @@ waited_laws {C} {X} {W} {kind} waited own = record {
   created = waited.created;
   named = waited.named;
   differs = λ j i apart. (waited.differs j i apart, waited.differs j i apart);
+  itself = λ i own is. is;
   unlike = waited.unlike;
   status = waited.status;
   stays = λ old new history entry i c keeps quiet still.

@@ -1,5 +1,5 @@
--- The facts that a kernel keeps of waits and values: a waiting process asked for its wait with its
--- latest call, and waits for what is not there; no value is too great.
+-- The facts about waits in every run: a waiting process asked for its wait with its latest call, and
+-- waits for what is not there.
 use Rattle.std.specs.Prelude.{◌≡◌, ℕ, ◌+◌, Bool, List, [], Option, None, Some, length, count_by, option_and_then, if◌then◌else◌}
 use Rattle.apex_laws.specs.Terms.{Call, Entry, Message, Queue, Record, Wait}
 use Rattle.apex_types.specs.declared.calls.BlackboardService.TheVariants as blackboard

@@ -1,11 +1,9 @@
 -- Laws of whole runs, in the subject's own words.
 use Rattle.std.specs.Prelude.{◌≡◌, ◌≢◌, ℕ, ◌≤◌, ◌<◌, true, false, List, [], ◌++◌, None, Some, count_by, length}
-use Rattle.std.specs.List.{filter_map}
+use Rattle.apex_laws.specs.Delivery.{receives_from, sent_to}
 use Rattle.apex_laws.specs.Terms.{Entry, Event, Holding, Message, OpenWork}
 use Rattle.apex_types.specs.declared.modes.DeadlineType.TheVariants.{Hard}
-use Rattle.apex_machine.specs.declared.records.Queue.TheVariants as queues
 use Rattle.apex_machine.specs.declared.records.Wait.TheVariants.{Semaphore, Receive, Send, Blackboard, EventFlag, Mutex}
-use Rattle.apex_machine.specs.services.Calls.{names, is_receive, sent_message}
 use Rattle.apex_machine.specs.processes.Dues.{HasNoPastDeadline, HasNoPastDue}
 use Rattle.apex_types.specs.declared.limits.TheConstants.{MOST_DEPTH}
 use Rattle.apex_machine.specs.processes.Held.{holding_of, is_of}
@@ -16,7 +14,7 @@ use Rattle.apex_machine.specs.processes.Roster.{record_at}
 use Rattle.apex_machine.specs.processes.Running.{current_priority}
 use Rattle.apex_machine.specs.services.SemaphoreServices.{SemaphoreObject}
 use Rattle.apex_machine.specs.table.Table.{Table, IsLawful, process_config, semaphore_config, buffer_config, mutex_config}
-use Rattle.apex_machine.specs.services.Satisfied.{calls_where, semaphore_value, buffer_content, blackboard_message, is_up}
+use Rattle.apex_machine.specs.services.Satisfied.{semaphore_value, buffer_content, blackboard_message, is_up}
 use Rattle.apex_machine.specs.Machine.{Machine, run, opening, open_work, tick, events_of}
 use Rattle.apex_laws.specs.AskedWaits.{IsAccounted}
 
@@ -31,18 +29,14 @@ pub record IsInRange (table : Table) (history : List Entry) (s : ℕ) : Type 0 w
 abbrev pub AreInRange : Table → List Entry → Type 0
 AreInRange table history = (s : ℕ) → s < length table.semaphores → IsInRange table history s
 
--- the messages that buffer b delivered, one for each satisfied receive, are the first of those that
--- were sent, and its content is the rest
-pub record IsInOrder (history : List Entry) (b : ℕ) : Type 0 where
-  pub delivered : List Message
-  pub many : length delivered ≡ count_by is_receive (calls_where (names (queues.Buffer b)) history)
-  pub sent : filter_map sent_message (calls_where (names (queues.Buffer b)) history) ≡ delivered
-      ++ buffer_content b history
+-- no more receives from buffer b were satisfied than messages were sent to it
+abbrev pub HasServedNoMoreThanSent : List Entry → ℕ → Type 0
+HasServedNoMoreThanSent history b = receives_from b history ≤ length (sent_to b history)
 
--- each message that was sent to buffer b comes out once and in order, and it holds no more than it
--- has room for; a receiver waits only if it is empty, and a sender only if it is full
-pub record BufferIsInOrder (table : Table) (machine : Machine) (b : ℕ) : Type 0 where
-  pub order : IsInOrder machine.history b
+-- buffer b serves no more than was sent to it, and holds no more than it has room for; a receiver
+-- waits only if it is empty, and a sender only if it is full
+pub record BufferIsInRange (table : Table) (machine : Machine) (b : ℕ) : Type 0 where
+  pub served : HasServedNoMoreThanSent machine.history b
   pub room : length (buffer_content b machine.history) ≤ (buffer_config table b).capacity
   pub receivers : (p : ℕ) → (record_at machine.roster p).wait ≡ Some (Receive b)
       → buffer_content b machine.history ≡ []
@@ -66,10 +60,10 @@ WaitersWaitForEventFlags machine e =
     (p : ℕ) → (record_at machine.roster p).wait ≡ Some (EventFlag e)
     → is_up e machine.history ≡ false
 
--- no process waits for an object that has what it waits for, and buffers deliver in order
+-- no process waits for an object that has what it waits for, and each buffer is in range
 pub record NobodyWaitsInVain (table : Table) (machine : Machine) : Type 0 where
   pub semaphores : (s : ℕ) → s < length table.semaphores → WaitersWaitForSemaphores table machine s
-  pub buffers : (b : ℕ) → b < length table.buffers → BufferIsInOrder table machine b
+  pub buffers : (b : ℕ) → b < length table.buffers → BufferIsInRange table machine b
   pub blackboards : (b : ℕ) → b < length table.blackboards → ReadersWaitForMessages machine b
   pub event_flags : (e : ℕ) → e < length table.event_flags → WaitersWaitForEventFlags machine e
 

@@ -1,5 +1,6 @@
 -- The laws of the machine, over every lawful table.
 pub mod Terms
+pub mod Delivery
 pub mod Laws
 pub mod States
 pub mod Unbroken

@@ -2,6 +2,7 @@
 //! function that changes nothing.
 #![tactic(auto)]
 
+ghost use Rattle.apex_laws.specs.Delivery.{MessagesComeInOrder};
 ghost use Rattle.apex_laws.specs.Laws.{HardMissesStop, HistoriesReplay, MutexesStayOwnedInOrder, NobodyEverWaitsInVain, OfEachTable, ReleasesLieInPeriods, RunsCompose, RunsStayWithin, TimeGoesForward, ValuesStayInRange, WorkersStay};
 ghost use Rattle.apex_laws.specs.States.{EachHasOneState};
 ghost use Rattle.apex_laws.specs.Unbroken.{WorkEndsAsItWasKept};
@@ -64,8 +65,18 @@ pub fn work_ends_as_it_was_kept()
     ensures { OfEachTable WorkEndsAsItWasKept }
 {}
 
-/// In every run each message that was sent to a buffer comes out once and in order, no buffer holds
-/// more than it has room for, and no process waits for an object that has what it waits for.
+/// In every run a receive that a turn answers with a message gives the next one of its buffer: the
+/// first receive gives the first message that was sent, the second the second, and so on. A process
+/// that waits to receive is woken with NO_ERROR only by a send to its buffer; it gets the message of
+/// that send, and each message sent before had been received. A send wakes no other process with
+/// NO_ERROR (ARINC 653 Part 1, buffers).
+pub fn messages_come_in_order()
+    ensures { OfEachTable MessagesComeInOrder }
+{}
+
+/// In every run no more receives from a buffer are satisfied than messages were sent to it, no
+/// buffer holds more than it has room for, and no process waits for an object that has what it
+/// waits for.
 pub fn nobody_ever_waits_in_vain()
     ensures { OfEachTable NobodyEverWaitsInVain }
 {}
