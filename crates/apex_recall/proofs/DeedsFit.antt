@@ -1,8 +1,8 @@
 -- Every event keeps records and objects in bounds.
-use Rattle.std.proofs.Common.{◌≡◌, ℕ, zero, suc, ◌+◌, ◌<◌, ◌≤◌, ◌^◌, Bool, true, false, cond, nat_lt, List, [], ◌∷◌, length, map, get_or, slice_get, Option, None, Some, option_map, refl, sym, ◌∙◌, ap, subst, inl, inr, arith, ltb-true}
+use Rattle.std.proofs.Common.{◌≡◌, ℕ, zero, suc, ◌+◌, ◌<◌, ◌≤◌, ◌^◌, Bool, true, false, cond, nat_lt, List, [], ◌∷◌, length, map, get_or, Option, None, Some, refl, sym, ◌∙◌, ap, subst, inl, inr, arith, ltb-true}
 use Rattle.std.proofs.lemmas.Bool.{cases_lt, cond_both}
 use Rattle.std.proofs.lemmas.List.{get_or_past}
-use Rattle.std.proofs.lemmas.Option.{get_or_from_slice_get, none-some, same_Some, slice_get_within}
+use Rattle.std.proofs.lemmas.Option.{none-some, same_Some}
 use Rattle.apex_types.specs.declared.calls.BlackboardService.TheVariants as blackboard
 use Rattle.apex_types.specs.declared.calls.BufferService.TheVariants as buffer
 use Rattle.apex_types.specs.declared.calls.Call.{Call}
@@ -32,11 +32,12 @@ use Rattle.apex_machine.specs.services.ProcessServices.{delay_ticks, process_kin
 use Rattle.apex_machine.specs.services.Rows.{within}
 use Rattle.apex_machine.specs.services.SemaphoreServices.{semaphore_kind}
 use Rattle.apex_machine.specs.table.Profiles.{owned_of, processes_of}
-use Rattle.apex_machine.specs.table.Table.{IsKnown, IsKnownObject, IsLawful, IsLawfulStep, IsLiteral, MutexConfig, ProcessConfig, Step, Table, call_in, no_mutex, no_process, no_step, process_config, step_at}
+use Rattle.apex_machine.specs.table.Table.{IsKnown, IsKnownObject, IsLawful, IsLawfulStep, IsLiteral, MutexConfig, ProcessConfig, Step, Table, call_in, no_mutex, no_process, process_config, step_at}
 use Rattle.apex_laws.proofs.GoesOn.{due_is}
 use Rattle.apex_laws.proofs.Known.{known_script_step}
-use Rattle.apex_recall.specs.Reached.{BlackboardFits, BufferFits, FitsMessage, FitsOrigin, HasUsualCalls, IsUsual, ObjectsFit, RosterFits, SemaphoreFits}
+use Rattle.apex_recall.specs.Reached.{BlackboardFits, BufferFits, FitsMessage, FitsOrigin, IsUsual, ObjectsFit, RosterFits, SemaphoreFits}
 use Rattle.apex_recall.specs.Terms.{Caller, Event, Message, OpenWork, Origin}
+use Rattle.apex_recall.proofs.Calls.{of_call, init_call_is_usual, script_call_is_usual}
 use Rattle.apex_recall.proofs.RecordsFit.{set_step_fits, time_fits}
 use Rattle.apex_recall.proofs.ServicesFit.{Anything, OutcomeFits, blackboard_fits, buffer_fits, caller_fits, deed_fits, event_flag_fits, mutex_fits, partition_fits, process_fits, semaphore_fits, timely_fits}
 
@@ -53,16 +54,8 @@ message_fits origin place literal call is message e = absurd (none-some message 
 
 step_fits : (table : Table) (origin : ℕ → Origin) (steps : List Step) → ((k : ℕ) → k < length steps → FitsOrigin (origin k))
     → ((k : ℕ) → k < length steps → IsLawfulStep table (origin k) (step_at steps k)) → (k : ℕ) (call : Call) → call_in steps k ≡ Some call → CallFits call
-step_fits table origin steps place lawful k call is = found (slice_get steps k) refl where
-  found : (o : Option Step) → slice_get steps k ≡ o → CallFits call
-  found None none = absurd (none-some call (ap (option_map (λ (s : Step). s.call)) (sym none) ∙ is))
-  found (Some step) some =
-      let within = slice_get_within steps k step some in
-      let same : step_at steps k ≡ step = get_or_from_slice_get steps k step no_step some in
-      let own : step.call ≡ call = same_Some step.call call (sym (ap (option_map (λ (s : Step). s.call)) some) ∙ is) in
-      let literal = (lawful k within).literal in
-      subst CallFits (ap (λ (s : Step). s.call) same ∙ own)
-      (message_fits (origin k) (place k within) (step_at steps k).literal (step_at steps k).call literal)
+step_fits table origin steps place lawful =
+    of_call CallFits steps (λ k below. message_fits (origin k) (place k below) (step_at steps k).literal (step_at steps k).call (lawful k below).literal)
 
 known_index : {W : Type 0} (many : ℕ) (call : ObjectCall ℕ W) → IsKnownObject many call → (i : ℕ) (service : W) → call ≡ KindService i service → i < many
 known_index many call known i service at = subst (IsKnownObject many) at known
@@ -81,7 +74,7 @@ ceilings_few [] few m = omega arith
 ceilings_few (entry ∷ mutexes) few zero = few 0 (omega arith)
 ceilings_few (entry ∷ mutexes) few (suc m) = ceilings_few mutexes (λ k within. few (suc k) (omega (arith, within))) m
 
-module _ (table : Table) (lawful : IsLawful table) (usual : HasUsualCalls table) where
+module _ (table : Table) (lawful : IsLawful table) where
   module _ (roster : Roster) (is : RosterFits table roster) (objects : Objects) (fits : ObjectsFit table objects) (caller : Caller) where
     ceiling : (m : ℕ) → ceiling_of roster m < 256
     ceiling m =
@@ -179,7 +172,7 @@ module _ (table : Table) (lawful : IsLawful table) (usual : HasUsualCalls table)
     script_fits p None here = service_fits roster is objects fits (Process p) (ToCaller StopSelf) tt tt (λ message e. absurd (none-some message e))
     script_fits p (Some call) here =
         let known = known_script_step table p (record_at roster p).step call lawful here in
-        let plain = usual.scripts p (record_at roster p).step call here in
+        let plain = script_call_is_usual table lawful p (record_at roster p).step call here in
         let ok = script_ok p (record_at roster p).step call here in
         cond_both {A = Roster} (is_work call) roster (move_on table roster p) (λ moved. DeedFits (served moved objects (Process p) call))
         (λ _. service_fits roster is objects fits (Process p) call known plain ok)
@@ -214,5 +207,5 @@ module _ (table : Table) (lawful : IsLawful table) (usual : HasUsualCalls table)
   event_fits s is fits (Turn core) =
       turn_fits s.roster is s.objects fits core (s.works core) (due_call table s core)
       (λ call due. let here = due_in s core call due in
-      ((due_is table lawful s core call due).known, usual.init s.made call here, init_ok s.made call here))
+      ((due_is table lawful s core call due).known, init_call_is_usual table lawful s.made call here, init_ok s.made call here))
   event_fits s is fits (Tick n) = record { left = time_fits s.roster is n; kept = fits }

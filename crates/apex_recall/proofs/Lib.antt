@@ -1,4 +1,5 @@
 -- Proofs of the situation of words, and of the laws of canonical forms.
+pub mod Calls
 pub mod Copying
 pub mod DeedsFit
 pub mod Exact
@@ -18,5 +19,4 @@ pub mod SameForms
 pub mod ServicesFit
 pub mod Singles
 pub mod Storable
-pub mod Within
 pub mod WordsBack

@@ -30,9 +30,10 @@ use Rattle.apex_alike.proofs.Canonical.{canonical_situation}
 use Rattle.apex_alike.proofs.Spans.{spans_of}
 use Rattle.apex_pace.specs.Pace.{Paced, is_allowed, is_starting, may_turn, paced_opening, paced_step, turns_after}
 use Rattle.apex_forms.specs.Forms.{canonical_paced}
-use Rattle.apex_recall.specs.Laws.{UsualFormsReach}
-use Rattle.apex_recall.specs.Reached.{BlackboardFits, BufferFits, HasUsualCalls, IsAmount, IsReached, IsUsual, RecordFits, RosterFits, SemaphoreFits}
+use Rattle.apex_recall.specs.Laws.{FormsReach}
+use Rattle.apex_recall.specs.Reached.{BlackboardFits, BufferFits, IsAmount, IsReached, IsUsual, RecordFits, RosterFits, SemaphoreFits}
 use Rattle.apex_recall.specs.Terms.{Caller, Event, OpenWork, Pace, Reply}
+use Rattle.apex_recall.proofs.Calls.{init_call_is_usual, script_call_is_usual}
 use Rattle.apex_recall.proofs.DeedsFit.{event_fits}
 use Rattle.apex_recall.proofs.GoOn.{fit_next, of_next}
 use Rattle.apex_choices.proofs.Short.{allowed_short}
@@ -68,13 +69,13 @@ unturned : (started own : Bool) (turns : ℕ) → own ≡ false → turns ≡ 0 
 unturned false own turns other none = none
 unturned true own turns other none = rw other none
 
-module _ (table : Table) (lawful : IsLawful table) (usual : HasUsualCalls table) where
+module _ (table : Table) (lawful : IsLawful table) where
   -- the call of a deed is one of the table's, or that of work that was open
   module _ (roster : Roster) (objects : Objects) where
     usual_script : (p : ℕ) (found : Option Call) → step_of table roster p ≡ found → (call : Call)
         → (script_deed table roster objects p found).call ≡ Some call → IsUsual call
     usual_script p None here call is = subst IsUsual (same_Some _ call is) tt
-    usual_script p (Some own) here call is = subst IsUsual (same_Some own call is) (usual.scripts p (record_at roster p).step own here)
+    usual_script p (Some own) here call is = subst IsUsual (same_Some own call is) (script_call_is_usual table lawful p (record_at roster p).step own here)
 
     usual_chosen : (found : Option ℕ) (call : Call) → (chosen_deed table roster objects found).call ≡ Some call → IsUsual call
     usual_chosen None call is = absurd (none-some call is)
@@ -89,7 +90,7 @@ module _ (table : Table) (lawful : IsLawful table) (usual : HasUsualCalls table)
   usual_due : (s : Situation) (core : ℕ) (call : Call) → due_call table s core ≡ Some call → IsUsual call
   usual_due s core call is = by_case _ is where
     by_case : (due : Bool) → (if due then call_in table.init s.made else None) ≡ Some call → IsUsual call
-    by_case true e = usual.init s.made call e
+    by_case true e = init_call_is_usual table lawful s.made call e
     by_case false e = absurd (none-some call e)
 
   usual_deed : (s : Situation) → ((core : ℕ) → ForSome (s.works core) (λ o. IsAmount o.work.amount)) → (event : Event) (call : Call)
@@ -132,7 +133,7 @@ module _ (table : Table) (lawful : IsLawful table) (usual : HasUsualCalls table)
     pub reached_next : IsReached table (paced_step table form event)
     reached_next =
         let short = allowed_short pace table form event allowed in
-        let fits = event_fits table lawful usual form.situation (canonical_fits table s.situation reached.fit reached.records) reached.objects event in
+        let fits = event_fits table lawful form.situation (canonical_fits table s.situation reached.fit reached.records) reached.objects event in
         record {
           of = of_next table lawful s.situation reached.of reached.fit event short;
           fit = fit_next table lawful s.situation reached.of reached.fit event short;
@@ -240,8 +241,8 @@ module _ (table : Table) (lawful : IsLawful table) where
         turns = λ core past. refl;
       }
 
-pub forms_reach : (table : Table) → IsLawful table → UsualFormsReach table
-forms_reach table lawful usual = record {
+pub forms_reach : (table : Table) → IsLawful table → FormsReach table
+forms_reach table lawful = record {
   opens = opening_reached table lawful;
-  steps = λ pace s reached event allowed. reached_next table lawful usual pace s reached event allowed;
+  steps = λ pace s reached event allowed. reached_next table lawful pace s reached event allowed;
 }

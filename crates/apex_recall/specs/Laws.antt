@@ -5,7 +5,7 @@ use Rattle.apex_forms.specs.Forms.{canonical_paced}
 use Rattle.apex_machine.specs.table.Table.{Table}
 use Rattle.apex_pace.specs.Pace.{Paced, is_allowed, paced_opening, paced_step}
 use Rattle.apex_recall.specs.Formed.{form_words}
-use Rattle.apex_recall.specs.Reached.{HasUsualCalls, IsReached}
+use Rattle.apex_recall.specs.Reached.{IsReached}
 use Rattle.apex_recall.specs.Restored.{paced_from}
 use Rattle.apex_recall.specs.Terms.{Event, Pace}
 
@@ -16,10 +16,6 @@ pub record FormsReach (table : Table) : Type 0 where
   pub steps : (pace : Pace) (s : Paced) → IsReached table s → (event : Event)
       → is_allowed pace table (canonical_paced pace s) event ≡ true
       → IsReached table (paced_step table (canonical_paced pace s) event)
-
--- so it is with every table whose calls have usual numbers
-abbrev pub UsualFormsReach : Table → Type 0
-UsualFormsReach table = HasUsualCalls table → FormsReach table
 
 -- the words of the canonical form hold all of it: so two canonical forms with the same words are the
 -- same

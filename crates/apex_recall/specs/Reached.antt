@@ -13,7 +13,7 @@ use Rattle.apex_machine.specs.services.BlackboardServices.{BlackboardObject, bla
 use Rattle.apex_machine.specs.services.BufferServices.{BufferObject, buffer_kind}
 use Rattle.apex_machine.specs.services.ProcessServices.{delay_ticks}
 use Rattle.apex_machine.specs.services.SemaphoreServices.{SemaphoreObject, semaphore_kind}
-use Rattle.apex_machine.specs.table.Table.{Table, blackboard_config, buffer_config, call_in, process_config, semaphore_config}
+use Rattle.apex_machine.specs.table.Table.{Table, blackboard_config, buffer_config, process_config, semaphore_config}
 use Rattle.apex_pace.specs.Pace.{Paced}
 use Rattle.apex_recall.specs.Terms.{Holding, Message, Origin, Record, Wait}
 use Rattle.apex_types.specs.declared.calls.Call.{Call}
@@ -123,12 +123,6 @@ abbrev pub IsUsual : Call → Type 0
 IsUsual (ToProcess (KindService p (DelayedStart delay))) = delay_ticks delay < 2 ^ 32
 IsUsual (Work amount) = IsAmount amount
 IsUsual _ = Unit {0}
-
--- so are those of all calls of the table
-pub record HasUsualCalls (table : Table) : Type 0 where
-  pub init : (k : ℕ) (call : Call) → call_in table.init k ≡ Some call → IsUsual call
-  pub scripts : (p k : ℕ) (call : Call) → call_in (process_config table p).script k ≡ Some call
-      → IsUsual call
 
 -- the situation is one of the table: it has a record and an object for each entry of the table, with
 -- the attributes that the table gives, and made no more init steps than there are; work is that of

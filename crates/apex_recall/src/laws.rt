@@ -1,12 +1,12 @@
 //! The laws of canonical forms and their words. Each is the contract of a function that changes
 //! nothing.
 ghost use Rattle.apex_laws.specs.Laws.{OfEachTable};
-ghost use Rattle.apex_recall.specs.Laws.{FormsHaveWords, UsualFormsReach, WordsAreExact};
+ghost use Rattle.apex_recall.specs.Laws.{FormsHaveWords, FormsReach, WordsAreExact};
 
 /// The situation before any event fits into its words, and so does what comes of an event that a
 /// pace allows in a canonical form.
 pub fn forms_stay_in_bounds()
-    ensures { OfEachTable UsualFormsReach }
+    ensures { OfEachTable FormsReach }
 {}
 
 /// The words of a canonical form hold all of it.

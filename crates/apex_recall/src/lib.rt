@@ -8,7 +8,6 @@ mod objects;
 mod premises;
 mod records;
 mod restored;
-mod usual;
 mod values;
 
 pub use copied::restore_known;

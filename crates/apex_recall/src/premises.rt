@@ -6,7 +6,6 @@ ghost use Rattle.apex_recall.specs.Laws.{FormsReach};
 ghost use Rattle.apex_recall.specs.Formed.{FormsAreReady, FormsFit, PartsAreKept};
 
 use crate::laws::forms_stay_in_bounds;
-use crate::usual::calls_are_usual;
 use apex_configs::Table;
 use apex_pace::Pace;
 
@@ -22,7 +21,6 @@ pub fn forms_reach(table: &Table)
     ensures { FormsReach table.now }
 {
     table.lawful();
-    calls_are_usual(table);
     forms_stay_in_bounds();
 }
 

@@ -1,4 +1,4 @@
 use Rattle.apex_recall.proofs.premises.forms_reach.Goals as goal
 
 pub returns : goal.returns
-returns c = c.forms_stay_in_bounds.ensures c.args.table.now c.lawful.ensures c.calls_are_usual.ensures
+returns c = c.forms_stay_in_bounds.ensures c.args.table.now c.lawful.ensures
