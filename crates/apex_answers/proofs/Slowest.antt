@@ -31,7 +31,7 @@ pub record CanShow (table : Table) (events : List Event) : Type 0 where
   pub own : All (IsWithin table.cores) events
   pub fits : length events ≤ table.limit
 
-module _ (system : Searched) (p : ℕ) where
+module _ (system : Searched) (p room : ℕ) where
   from_slowest : (slowest : Slowest) → IsSlowest system p slowest → CanShow system.table slowest.schedule.items
   from_slowest slowest is = record {
     earlier = is.leads.earlier;
@@ -41,7 +41,7 @@ module _ (system : Searched) (p : ℕ) where
     fits = is.fits;
   }
 
-  pub can_show : (worst : Worst) → IsWorst system p worst → (events : List Event) → schedule_in worst ≡ Some events → CanShow system.table events
+  pub can_show : (worst : Worst) → IsWorst system p room worst → (events : List Event) → schedule_in worst ≡ Some events → CanShow system.table events
   can_show (Greatest None states) is events e = absurd (none-some events e)
   can_show (Greatest (Some slowest) states) is events e = subst (CanShow system.table) (same_Some slowest.schedule.items events e) (from_slowest slowest (is.0 slowest refl))
   can_show (Overrun schedule period) is events e = subst (CanShow system.table) (same_Some schedule.items events e) (record {
@@ -109,7 +109,7 @@ shows_run table lawful text events kernel read can ran =
     subst (λ (part : List ℕ). ShowsRun table (Some events) part) (sym text_is)
     (shows events entry (record { earlier = can.earlier; last = can.last; is = can.is; entry_is = refl; ends = ends }))
 
-module _ (system : Searched) (p room : ℕ) (answer : WorstAnswer) (is : IsWorst system p answer.worst) where
+module _ (system : Searched) (p room : ℕ) (answer : WorstAnswer) (is : IsWorst system p room answer.worst) where
   pub answer_with : (found : Option (List Event)) → schedule_in answer.worst ≡ found → ShowsRun system.table found (run_part found answer.kernel)
       → IsWorstAnswer system p room answer
   answer_with found e shown = record {

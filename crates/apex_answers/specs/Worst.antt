@@ -74,7 +74,7 @@ worst_end room (Beyond found limit) = is_beyond limit
 pub record SaysWorst (system : Searched) (p room : ℕ) (text : List ℕ) (end : SearchEnd) : Type 0
   where
     pub worst : Worst
-    pub is : IsWorst system p worst
+    pub is : IsWorst system p room worst
     pub run : List ℕ
     pub shows : ShowsRun system.table (schedule_in worst) run
     pub text_is : text ≡ head_text worst ++ run ++ tail_text room worst

@@ -99,7 +99,7 @@ module _ (search : Search) (text : List ℕ) where
     of = has.is.of;
     says = for_facts process service has.is.place is has.is.asked (record {
       census = census;
-      is = subst (λ (system : Searched). IsCensus system census) has.is.is has.answers;
+      is = subst (λ (system : Searched). IsCensus system search.room census) has.is.is has.answers;
       text_is = refl;
       end_is = refl;
     });

@@ -147,7 +147,7 @@ pub record HasFacts (search : Search) (process : Option Text) (service : Option 
     (text : List ℕ) (census : Census) : Type 0 where
   pub system : Searched
   pub is : IsSystemOf search.pace all_facts process service text system
-  pub answers : IsCensus system census
+  pub answers : IsCensus system search.room census
 
 -- the answer is one of a search for the greatest response of the process of this name or number
 pub record HasGreatest (search : Search) (process : Text) (text : List ℕ) (answer : WorstAnswer)

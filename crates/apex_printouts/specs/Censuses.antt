@@ -48,6 +48,6 @@ census_end room census = ended room census.found.items census.end
 pub record SaysCensus (system : Searched) (room : ℕ) (text : List ℕ) (end : SearchEnd) : Type 0
   where
     pub census : Census
-    pub is : IsCensus system census
+    pub is : IsCensus system room census
     pub text_is : text ≡ census_text room census
     pub end_is : end ≡ census_end room census

@@ -13,7 +13,7 @@ use Rattle.apex_machine.specs.table.Table.{IsLawful, Table}
 use Rattle.apex_alike.proofs.Canonical.{canonical_situation}
 use Rattle.apex_alike.specs.Canonical.{canonical_roster}
 use Rattle.apex_pace.specs.Laws.{IsPace}
-use Rattle.apex_pace.specs.Pace.{Paced, paced_opening, paced_run, paced_step}
+use Rattle.apex_pace.specs.Pace.{KeepsPace, Paced, paced_opening, paced_run, paced_step}
 use Rattle.apex_search.specs.Answers.{SaysOfSchedules, events_along, event_and_later, schedule_of}
 use Rattle.apex_choices.specs.Counts.{IsSameOnCores, IsSamePaced}
 use Rattle.apex_forms.specs.Forms.{canonical_paced}
@@ -46,6 +46,13 @@ pub run_push : (table : Table) (s : Paced) (events : List Event) (event : Event)
     → paced_run table s (events ++ event ∷ []) ≡ paced_step table (paced_run table s events) event
 run_push table s [] event = refl
 run_push table s (e ∷ events) event = run_push table (paced_step table s e) events event
+
+-- a form stands for the situation
+pub record HasForm (pace : Pace) (table : Table) (s : Paced) : Type 0 where
+  pub t : Paced
+  pub reached : IsReached table t
+  pub later : ℕ
+  pub stands : StandsFor pace later (canonical_paced pace t) s
 
 -- the form is that of the situation to which the events lead
 pub form_after : (system : Searched) (path : List ℕ) (here : Paced) (events : List Event) (taken : ℕ)
@@ -84,6 +91,23 @@ module _ (system : Searched) (is_pace : IsPace system.pace) (lawful : IsLawful s
     worked = λ core. refl;
   }
 
+  -- the events of a schedule lead from a situation for which a form stands to another one
+  still_has_form : (events : List Event) (s : Paced) → HasForm pace table s → KeepsPace pace table s events
+      → HasForm pace table (paced_run table s events)
+  still_has_form [] s form keeps = form
+  still_has_form (event ∷ events) s form keeps =
+      let steps : StepsFor pace table (canonical_paced pace form.t) s event =
+      alike table lawful pace is_pace form.t form.reached form.later s form.stands event in
+      still_has_form events (paced_step table s event) (record {
+        t = paced_step table (canonical_paced pace form.t) event;
+        reached = bounds.steps pace form.t form.reached event (steps.allowed ∙ keeps.0);
+        later = steps.later;
+        stands = steps.stands keeps.0;
+      }) keeps.1
+
+  pub has_form : (events : List Event) → KeepsPace pace table opening events → HasForm pace table (paced_run table opening events)
+  has_form events = still_has_form events opening (record { t = opening; reached = bounds.opens; later = shift; stands = opening_stands })
+
   -- what is known of the situations whose forms are the states
   pub stand : OfEachTable WordsAreExact → OfEachTable FormsHaveWords → Stand pace table (IsReached table)
   stand exact words = record {
@@ -99,7 +123,7 @@ module _ (system : Searched) (is_pace : IsPace system.pace) (lawful : IsLawful s
 
   pub says_of : OfEachTable WordsAreExact → OfEachTable FormsHaveWords → {E : Type 0} (result : Result Answer E) (room : ℕ)
       → IfOk result (Says (step_within (choices_of system) (search_step system)) (search_start system) room)
-      → IfOk result (SaysOfSchedules system)
+      → IfOk result (SaysOfSchedules system room)
   says_of exact words (Ok answer) room says =
       says_of_schedules system (IsReached table) (stand exact words) room answer says
   says_of exact words (Err e) room says = tt

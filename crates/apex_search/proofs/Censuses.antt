@@ -3,24 +3,27 @@ use Rattle.std.proofs.Common.{◌≡◌, ℕ, zero, suc, ◌<◌, ◌≤◌, ◌
 use Rattle.std.proofs.lemmas.Bool.{cases_Bool}
 use Rattle.std.proofs.lemmas.Bool.Decides.{Decides-eqb}
 use Rattle.std.proofs.lemmas.Option.{same_Some}
-use Rattle.std.specs.List.{list_any, slice_get}
+use Rattle.std.proofs.lemmas.List.Elements.{All-head, All-push, All-tail}
+use Rattle.std.proofs.lemmas.List.Quantifiers.{all_pairs_push}
+use Rattle.std.specs.List.{All, AllPairs, list_any, slice_get}
+use Rattle.std.specs.Prelude.{◌≢◌}
 use Rattle.apex_explore.specs.Paths.{IsHit}
-use Rattle.apex_explore.specs.Searches.{Weakens}
+use Rattle.apex_explore.specs.Searches.{Weakens, room_of}
 use Rattle.apex_explore.specs.Systems.{refuses, hits}
 use Rattle.apex_explore.specs.declared.searches.Search.{Search}
 use Rattle.apex_explore.proofs.Weaker.{Leads-weaker}
 use Rattle.apex_machine.specs.Deeds.{Deed}
 use Rattle.apex_machine.specs.Situations.{deed}
 use Rattle.apex_pace.specs.Pace.{Paced}
-use Rattle.apex_search.specs.Answers.{IsShortestSchedule, LeadsToFact, schedule_of}
-use Rattle.apex_search.specs.Census.{AreFindings, EndSays, IsCensus, IsFinding, IsOneOf, IsSearchOf, alone, asking, facts_of, makes, without}
+use Rattle.apex_search.specs.Answers.{IsRoomUsedUp, IsShortestSchedule, LeadsToFact, schedule_of}
+use Rattle.apex_search.specs.Census.{AreFindings, EndSays, IsCensus, IsFinding, IsNoLater, IsOneOf, IsSearchOf, alone, asking, facts_of, without}
 use Rattle.apex_questions.specs.Facts.{is_code, is_fact}
 use Rattle.apex_search.specs.Facts.{Shown, has_fact, has_one, shown_of}
 use Rattle.apex_recall.specs.Restored.{paced_from}
-use Rattle.apex_search.specs.Steps.{Searched, choices_of, step_by}
+use Rattle.apex_search.specs.Steps.{Searched, choices_of, makes, step_by}
 use Rattle.apex_choices.specs.Choices.{event_of}
 use Rattle.apex_search.specs.Terms.{Event, Fact, Question, ReturnCode}
-use Rattle.apex_search.proofs.Narrower.{narrower_weakens, search_narrower, wider}
+use Rattle.apex_search.proofs.Narrower.{narrower_weakens, search_narrower, used_up_too, wider}
 use Rattle.apex_search.specs.declared.census.Census.{Census}
 use Rattle.apex_search.specs.declared.census.End.{End}
 use Rattle.apex_search.specs.declared.census.End.TheVariants.{Closed, Full}
@@ -116,6 +119,20 @@ no_more gone (x ∷ xs) = elim (cases_Bool (is_fact gone x)) [
   | inr fails ↦ rw fails (let rest = no_more gone xs in omega (arith, rest))
 ]
 
+-- and the one is not
+not_head : (gone x : Fact) (xs : List Fact) → is_fact gone x ≡ false → (IsOneOf gone xs → ⊥) → IsOneOf gone (x ∷ xs) → ⊥
+not_head gone x xs fails none (inl same) =
+    let holds : is_fact gone x ≡ true = subst (λ (f : Fact). is_fact gone f ≡ true) same (is_fact_itself gone) in
+    let clash : true ≡ false = sym holds ∙ fails in cc
+not_head gone x xs fails none (inr later) = none later
+
+not_there : (gone : Fact) (facts : List Fact) → IsOneOf gone (without gone facts) → ⊥
+not_there gone [] one = one
+not_there gone (x ∷ xs) one = elim (cases_Bool (is_fact gone x)) [
+  | inl holds ↦ not_there gone xs (rw holds at one)
+  | inr fails ↦ not_head gone x (without gone xs) fails (not_there gone xs) (rw fails at one)
+]
+
 pub fewer : (gone : Fact) (facts : List Fact) → IsOneOf gone facts → length (without gone facts) < length facts
 fewer gone [] one = absurd one
 fewer gone (x ∷ xs) (inl same) =
@@ -186,14 +203,20 @@ module _ (system : Searched) where
     wider_facts : (events : List Event) → LeadsToFact (asking system facts) events → LeadsToFact system events
     wider_facts = wider system (with_facts question facts) (asked_too facts within)
 
+    used_up_for_fewer : (room depth : ℕ) → IsRoomUsedUp system room depth → IsRoomUsedUp (asking system facts) room depth
+    used_up_for_fewer = used_up_too system (with_facts question facts) (asked_too facts within)
+
   only : (fact : Fact) → IsOneOf fact question.facts → (other : Fact) → IsOneOf other (fact ∷ []) → IsOneOf other question.facts
   only fact asked other (inl same) = subst (λ (f : Fact). IsOneOf f question.facts) (sym same) asked
   only fact asked other (inr none) = absurd none
 
   -- what an end says of all facts it says of each
-  pub end_says : (end : End) → EndSays system end → (fact : Fact) → IsOneOf fact question.facts → EndSays (alone system fact) end
-  end_says (Closed states) says fact asked = λ events leads. says events (wider_facts (fact ∷ []) (only fact asked) events leads)
-  end_says (Full depth) says fact asked = λ events short leads. says events short (wider_facts (fact ∷ []) (only fact asked) events leads)
+  pub end_says : (room : ℕ) (end : End) → EndSays system room end → (fact : Fact) → IsOneOf fact question.facts → EndSays (alone system fact) room end
+  end_says room (Closed states) says fact asked = λ events leads. says events (wider_facts (fact ∷ []) (only fact asked) events leads)
+  end_says room (Full depth) says fact asked = (
+    λ events short leads. says.0 events short (wider_facts (fact ∷ []) (only fact asked) events leads),
+    used_up_for_fewer (fact ∷ []) (only fact asked) room depth says.1,
+  )
 
   -- a shortest path to one of the facts that leads to this one is a shortest one to it
   pub shortest_alone : (fact : Fact) → IsOneOf fact question.facts → (path : List ℕ)
@@ -255,29 +278,68 @@ found_last : (found : List Finding) (finding : Finding) (fact : Fact) → fact �
 found_last [] finding fact same = inl same
 found_last (x ∷ xs) finding fact same = inr (found_last xs finding fact same)
 
--- the system asks for those of the facts that were not found yet
-pub record IsCounting (system now : Searched) (search : Search Workplace) (found : List Finding) : Type 0 where
+of_each_fact : (P : Fact → Type 0) (found : List Finding) → All (λ (finding : Finding). P finding.fact) found
+    → (fact : Fact) → IsOneOf fact (facts_of found) → P fact
+of_each_fact P [] all fact one = absurd one
+of_each_fact P (x ∷ xs) all fact (inl same) = subst P (sym same) (All-head (λ (finding : Finding). P finding.fact) x xs all)
+of_each_fact P (x ∷ xs) all fact (inr later) = of_each_fact P xs (All-tail (λ (finding : Finding). P finding.fact) x xs all) fact later
+
+-- it is not one of these facts
+abbrev pub IsGone : List Fact → Finding → Type 0
+IsGone facts finding = IsOneOf finding.fact facts → ⊥
+
+-- no schedule that leads to a fact of the system is shorter
+abbrev pub ComesFirst : Searched → Finding → Type 0
+ComesFirst now finding = (events : List Event) → LeadsToFact now events → length finding.path.items ≤ length events
+
+-- the system asks for those of the facts that were not found yet, and the search has room for this many
+-- states
+pub record IsCounting (system now : Searched) (room : ℕ) (search : Search Workplace) (found : List Finding) : Type 0 where
   pub same : now ≡ asking system now.question.facts
   pub of : IsSearchOf now search
+  pub room_is : room_of search ≡ room
   pub each : AreFindings system found
+  pub in_order : AllPairs IsNoLater found
+  pub once : AllPairs (λ one other. one.fact ≢ other.fact) found
+  pub gone : All (IsGone now.question.facts) found
+  pub sooner : All (ComesFirst now) found
   pub within : (fact : Fact) → IsOneOf fact now.question.facts → IsOneOf fact system.question.facts
   pub whole : (fact : Fact) → IsOneOf fact system.question.facts → IsOneOf fact (facts_of found) ⊎ IsOneOf fact now.question.facts
 
-pub counting_more : (system now next : Searched) (search search' : Search Workplace) (found found' : List Finding) (finding : Finding)
-    → IsCounting system now search found
+pub counting_begins : (system : Searched) (search : Search Workplace) → IsSearchOf system search → IsCounting system system (room_of search) search []
+counting_begins system search of = record {
+  same = refl;
+  of = of;
+  room_is = refl;
+  each = tt;
+  in_order = λ i j d before within. absurd (omega (arith, within));
+  once = λ i j d before within. absurd (omega (arith, within));
+  gone = λ k d within. absurd (omega (arith, within));
+  sooner = λ k d within. absurd (omega (arith, within));
+  within = λ fact one. one;
+  whole = λ fact one. inr one;
+}
+
+pub counting_more : (system now next : Searched) (room : ℕ) (search search' : Search Workplace) (found found' : List Finding) (finding : Finding)
+    → IsCounting system now room search found
     → IsSearchOf now search'
+    → room_of search' ≡ room_of search
     → IsOneOf finding.fact now.question.facts
+    → IsShortestSchedule now finding.path.items
     → IsShortestSchedule (alone now finding.fact) finding.path.items
     → next ≡ asking now (without finding.fact now.question.facts)
     → found' ≡ found ++ finding ∷ []
-    → IsCounting system next search' found'
-counting_more system now next search search' found found' finding so_far of asked shortest is pushed =
+    → IsCounting system next room search' found'
+counting_more system now next room search search' found found' finding so_far of same_room asked first shortest is pushed =
     rw (is, pushed) (more) where
       others : List Fact
       others = without finding.fact now.question.facts
 
       there : (fact : Fact) → IsOneOf fact others → IsOneOf fact now.question.facts
       there fact one = was_there finding.fact now.question.facts fact one
+
+      wider_there : (events : List Event) → LeadsToFact (asking now others) events → LeadsToFact now events
+      wider_there = wider_facts now others there
 
       found_or_open : (fact : Fact) → IsOneOf fact (facts_of found) ⊎ IsOneOf fact now.question.facts
           → IsOneOf fact (facts_of (found ++ finding ∷ [])) ⊎ IsOneOf fact others
@@ -287,31 +349,51 @@ counting_more system now next search search' found found' finding so_far of aske
         | inr still ↦ inr still
       ]
 
-      more : IsCounting system (asking now (without finding.fact now.question.facts)) search' (found ++ finding ∷ [])
+      more : IsCounting system (asking now (without finding.fact now.question.facts)) room search' (found ++ finding ∷ [])
       more = record {
         same = ap (λ (s : Searched). asking s others) so_far.same;
         of = search_fewer now others there search' of;
+        room_is = same_room ∙ so_far.room_is;
         each = found_push system found finding so_far.each (record {
           asked = so_far.within finding.fact asked;
           shortest = subst (λ (s : Searched). IsShortestSchedule (alone s finding.fact) finding.path.items) so_far.same shortest;
         });
+        in_order = all_pairs_push IsNoLater found finding so_far.in_order (λ k d within.
+            let bound = so_far.sooner k d within (schedule_of now finding.path.items) first.leads in
+            omega (arith, bound, first.many));
+        once = all_pairs_push (λ (one other : Finding). one.fact ≢ other.fact) found finding so_far.once (λ k d within same.
+            so_far.gone k d within (subst (λ (f : Fact). IsOneOf f now.question.facts) (sym same) asked));
+        gone = All-push (IsGone others) found finding (λ k d within one. so_far.gone k d within (there _ one))
+            (not_there finding.fact now.question.facts);
+        sooner = All-push (ComesFirst (asking now others)) found finding
+            (λ k d within events leads. so_far.sooner k d within events (wider_there events leads))
+            (λ events leads. first.shortest events (wider_there events leads));
         within = λ fact one. so_far.within fact (there fact one);
         whole = λ fact one. found_or_open fact (so_far.whole fact one);
       }
 
-pub counting_ends : (system now : Searched) (search : Search Workplace) (found : List Finding) (census : Census)
-    → IsCounting system now search found
+pub counting_ends : (system now : Searched) (room : ℕ) (search : Search Workplace) (found : List Finding) (census : Census)
+    → IsCounting system now room search found
     → census.found.items ≡ found
     → census.others ≡ now.question.facts
-    → EndSays now census.end
-    → IsCensus system census
-counting_ends system now search found census so_far same is says = record {
+    → EndSays now (room_of search) census.end
+    → IsCensus system room census
+counting_ends system now room search found census so_far same is says = record {
   found = subst (λ (findings : List Finding). AreFindings system findings) (sym same) so_far.each;
+  in_order = subst (λ (findings : List Finding). AllPairs IsNoLater findings) (sym same) so_far.in_order;
+  once = subst (λ (findings : List Finding). AllPairs (λ one other. one.fact ≢ other.fact) findings) (sym same) so_far.once;
+  left = subst (λ (s : Searched). EndSays s room census.end) (so_far.same ∙ ap (asking system) (sym is)) here;
   others = λ fact one.
       let asked : IsOneOf fact now.question.facts = subst (λ (facts : List Fact). IsOneOf fact facts) is one in (
         so_far.within fact asked,
-        subst (λ (s : Searched). EndSays (alone s fact) census.end) so_far.same (end_says now census.end says fact asked),
+        subst (λ (s : Searched). EndSays (alone s fact) room census.end) so_far.same (end_says now room census.end here fact asked),
       );
   whole = λ fact one.
       subst (λ (findings : List Finding). IsOneOf fact (facts_of findings) ⊎ IsOneOf fact census.others) (sym same) (subst (λ (facts : List Fact). IsOneOf fact (facts_of found) ⊎ IsOneOf fact facts) (sym is) (so_far.whole fact one));
-}
+  apart = λ fact one.
+      subst (λ (facts : List Fact). IsOneOf fact facts → ⊥) (sym is)
+      (of_each_fact (λ (f : Fact). IsOneOf f now.question.facts → ⊥) found so_far.gone fact
+      (subst (λ (findings : List Finding). IsOneOf fact (facts_of findings)) same one));
+} where
+  here : EndSays now room census.end
+  here = subst (λ (n : ℕ). EndSays now n census.end) so_far.room_is says

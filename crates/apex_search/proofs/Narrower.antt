@@ -4,15 +4,15 @@ use Rattle.std.proofs.lemmas.Bool.{cases_Bool}
 use Rattle.apex_explore.specs.Searches.{Weakens}
 use Rattle.apex_explore.specs.Systems.{Step, refuses, hits}
 use Rattle.apex_explore.specs.declared.searches.Search.{Search}
-use Rattle.apex_explore.proofs.Weaker.{IsSearched-weaker}
+use Rattle.apex_explore.proofs.Weaker.{IsSearched-weaker, Leads-weaker}
 use Rattle.apex_machine.specs.Deeds.{Deed}
 use Rattle.apex_machine.specs.Situations.{deed}
 use Rattle.apex_pace.specs.Pace.{Paced, paced_opening, paced_run}
-use Rattle.apex_search.specs.Answers.{LeadsToFact}
-use Rattle.apex_search.specs.Census.{IsSearchOf, makes}
+use Rattle.apex_search.specs.Answers.{IsRoomUsedUp, LeadsToFact}
+use Rattle.apex_search.specs.Census.{IsSearchOf}
 use Rattle.apex_search.specs.Facts.{has_fact}
 use Rattle.apex_recall.specs.Restored.{paced_from}
-use Rattle.apex_search.specs.Steps.{Searched, choices_of, search_start, search_step, step_by}
+use Rattle.apex_search.specs.Steps.{Searched, choices_of, makes, search_start, search_step, step_by}
 use Rattle.apex_choices.specs.Choices.{event_of}
 use Rattle.apex_search.specs.Terms.{Event, Question}
 use Rattle.apex_search.specs.declared.systems.Workplace.{Workplace}
@@ -61,6 +61,17 @@ module _ (system : Searched) (asked : Question) (narrower : IsNarrower system.qu
     keeps = leads.keeps;
     has = narrower (deed system.table (paced_run system.table (paced_opening system.table) leads.earlier).situation leads.last) leads.has;
   }
+
+  -- the states that the one reaches the other reaches, too
+  pub used_up_too : (room depth : ℕ) → IsRoomUsedUp system room depth → IsRoomUsedUp (with_question system asked) room depth
+  used_up_too room depth (states, many, distinct, within) = (
+    states,
+    many,
+    distinct,
+    λ n one.
+        let was = within n one in
+        (was.0, was.1, Leads-weaker (makes system) (makes (with_question system asked)) narrower_weakens (search_start system) was.0 n was.2),
+  )
 
   -- a search for the one is a search for the other
   pub search_narrower : (search : Search Workplace) → IsSearchOf system search → IsSearchOf (with_question system asked) search

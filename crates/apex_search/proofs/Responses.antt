@@ -8,25 +8,31 @@ use Rattle.std.specs.List.{All}
 use Rattle.std.specs.Option.{ForSome}
 use Rattle.apex_alike.proofs.Chains.{unmoved}
 use Rattle.apex_alike.specs.Alike.{AreAlike, IsLater, ServesAs, ServesFor}
+use Rattle.apex_explore.specs.Searches.{room_of}
 use Rattle.apex_explore.specs.declared.searches.Search.{Search}
+use Rattle.apex_laws.specs.Laws.{OfEachTable}
 use Rattle.apex_machine.specs.Deeds.{Deed}
 use Rattle.apex_machine.specs.Events.{IsWithin}
 use Rattle.apex_machine.specs.Situations.{deed}
 use Rattle.apex_machine.specs.processes.Periods.{IsReleased, awaits_first}
+use Rattle.apex_machine.specs.table.Table.{IsLawful}
 use Rattle.apex_machine.specs.processes.Roster.{Roster, record_at}
+use Rattle.apex_pace.specs.Laws.{IsPace}
 use Rattle.apex_pace.specs.Pace.{KeepsPace, Paced, paced_opening, paced_run}
-use Rattle.apex_search.specs.Answers.{IsShortestSchedule, LeadsToFact, NoSchedule, NoScheduleWithin, schedule_of}
+use Rattle.apex_recall.specs.Laws.{FormsReach}
+use Rattle.apex_search.specs.Answers.{IsRoomUsedUp, IsShortestSchedule, LeadsToFact, NoSchedule, NoScheduleWithin, schedule_of}
 use Rattle.apex_search.specs.Census.{IsSearchOf}
 use Rattle.apex_search.specs.Facts.{Shown, has_fact, has_one, is_age, is_blocked, is_periodic_wait, shown, shown_of}
 use Rattle.apex_forms.specs.Forms.{canonical_paced}
+use Rattle.apex_search.specs.Laws.{FormsStandFor}
 use Rattle.apex_search.specs.Steps.{Searched}
 use Rattle.apex_search.specs.Terms.{Call, Caller, Event, Notice, Question, Record, Reply}
-use Rattle.apex_search.specs.Worst.{AllBelow, AllBelowWithin, EndsJob, IsFormAfter, IsJobOf, IsOverrun, IsSlower, IsSlowest, LeadsToResponse, above, last_job, responding}
+use Rattle.apex_search.specs.Worst.{AllBelow, AllBelowWithin, EndsJob, HasResponseBeyond, IsFormAfter, IsJobOf, IsOverrun, IsSlower, IsSlowest, LeadsToResponse, above, last_job, responding}
 use Rattle.apex_questions.specs.declared.Fact.TheVariants.{Response}
 use Rattle.apex_search.specs.declared.systems.Workplace.{Workplace}
 use Rattle.apex_search.specs.declared.worst.Job.{Job}
 use Rattle.apex_search.specs.declared.worst.Slowest.{Slowest}
-use Rattle.apex_search.proofs.Along.{run_push}
+use Rattle.apex_search.proofs.Along.{HasForm, has_form, run_push}
 use Rattle.apex_search.proofs.Narrower.{IsNarrower, search_narrower}
 use Rattle.apex_types.specs.declared.calls.Call.TheVariants.{Time}
 use Rattle.apex_types.specs.declared.calls.TimeCall.TheVariants.{PeriodicWait}
@@ -217,6 +223,65 @@ read_off {d} {first} {second} alike p period released periodic job seen =
       past = past;
     }
 
+-- A schedule that leads to the fact has a response.
+
+-- no release is in the future
+released_before : {d : ℕ} {first second : Roster} → AreAlike d first second → (p period : ℕ)
+    → IsReleased (record_at second p) → (record_at second p).attributes.period ≡ Some period
+    → (record_at second p).release ≤ second.now
+released_before {d} {first} {second} alike p period released periodic =
+    let later : IsLater d first.now (record_at first p) (record_at second p) = alike.each p in
+    let r = record_at first p in
+    let started : r.started ≡ true = sym (ap (λ (s : Record). s.started) later.is) ∙ released.0 in
+    let waits : awaits_first r.wait ≡ false = sym (ap (λ (s : Record). awaits_first s.wait) later.is) ∙ released.1 in
+    let own : r.attributes.period ≡ Some period = sym (ap (λ (s : Record). s.attributes.period) later.is) ∙ periodic in
+    let serves : ServesAs d first.now period r.release later.release =
+    subst (λ (k : Option ℕ). ServesFor d first.now k r.release later.release) own (later.released started waits) in
+    let release : (record_at second p).release ≡ later.release = ap (λ (s : Record). s.release) later.is in
+    omega (arith, alike.time, release, serves.is, later.before)
+
+module _ (system : Searched) (is_pace : IsPace system.pace) (lawful : IsLawful system.table) (bounds : FormsReach system.table)
+    (alike : OfEachTable FormsStandFor) where
+  pub response_beyond : (p least limit : ℕ) (events : List Event) → limit < length events
+      → LeadsToFact (responding system p least) events → HasResponseBeyond system p least limit
+  response_beyond p least limit events longer fact =
+      let d = last_deed system p fact.earlier fact.last in
+      let is : IsAsked p least (shown_of d) = asked_in p least d fact.has in
+      let form : HasForm system.pace system.table (paced_run system.table (paced_opening system.table) events) =
+      has_form system is_pace lawful bounds alike events fact.keeps in
+      let ends_there : (paced_run system.table (paced_opening system.table) events).situation.roster ≡ d.outcome.roster =
+      ap (λ (es : List Event). (paced_run system.table (paced_opening system.table) es).situation.roster) fact.is
+      ∙ ap (λ (s : Paced). s.situation.roster) (run_push system.table (paced_opening system.table) fact.earlier fact.last) in
+      let rosters : AreAlike form.later (canonical_paced system.pace form.t).situation.roster d.outcome.roster =
+      subst (λ (roster : Roster). AreAlike form.later (canonical_paced system.pace form.t).situation.roster roster) ends_there form.stands.alike.rosters in
+      let before : (record_at d.outcome.roster p).release ≤ d.outcome.roster.now =
+      released_before rosters p is.period is.released is.periodic in
+      let response = d.outcome.roster.now - (record_at d.outcome.roster p).release in
+      record {
+        events = events;
+        period = is.period;
+        response = response;
+        leads = record {
+          earlier = fact.earlier;
+          last = fact.last;
+          is = fact.is;
+          keeps = fact.keeps;
+          ends = record {
+            caller = is.caller;
+            call = is.call;
+            reply = is.reply;
+            released = is.released;
+            periodic = is.periodic;
+            since = omega (arith, before);
+          };
+        };
+        great = elim (cases_lt is.period response) [
+          | inl over ↦ inr over
+          | inr within ↦ inl (omega (arith, is.long, within))
+        ];
+        longer = longer;
+      }
+
 module _ (system : Searched) (p least : ℕ) (path : List ℕ) (fact : LeadsToFact (responding system p least) (schedule_of system path))
     (events : List Event) (are : events ≡ schedule_of system path) (own : All (IsWithin system.table.cores) events)
     (here : Paced) (form : IsFormAfter system here events) where
@@ -289,31 +354,35 @@ module _ (system : Searched) (p least : ℕ) (path : List ℕ) (fact : LeadsToFa
 
 -- The search, so far.
 
--- it asks for a response of more ticks than the greatest one that was found
-pub record IsRising (system now : Searched) (p least : ℕ) (search : Search Workplace) (found : Option Slowest) : Type 0 where
+-- it asks for a response of more ticks than the greatest one that was found, and has room for this many
+-- states
+pub record IsRising (system now : Searched) (p least room : ℕ) (search : Search Workplace) (found : Option Slowest) : Type 0 where
   pub same : now ≡ responding system p least
   pub of : IsSearchOf now search
+  pub room_is : room_of search ≡ room
   pub best : ForSome found (IsSlowest system p)
   pub is : least ≡ above found
   pub few : least ≤ 2 ^ 32
 
 pub rising_begins : (system now : Searched) (p : ℕ) (search : Search Workplace) → now ≡ responding system p 0 → IsSearchOf now search
-    → IsRising system now p 0 search None
+    → IsRising system now p 0 (room_of search) search None
 rising_begins system now p search same of = record {
   same = same;
   of = of;
+  room_is = refl;
   best = λ x e. absurd (none-some x e);
   is = refl;
   few = omega arith;
 }
 
 -- a greater one is found
-pub rising_more : (system now : Searched) (p least : ℕ) (search : Search Workplace) (slowest : Slowest)
-    → IsSlower system now p least search slowest
-    → IsRising system now p (slowest.response + 1) search (Some slowest)
-rising_more system now p least search slowest slower = record {
+pub rising_more : (system now : Searched) (p least room : ℕ) (search : Search Workplace) (slowest : Slowest)
+    → IsSlower system now p least search slowest → room_of search ≡ room
+    → IsRising system now p (slowest.response + 1) room search (Some slowest)
+rising_more system now p least room search slowest slower room_is = record {
   same = slower.asks;
   of = slower.of;
+  room_is = room_is;
   best = λ x e. subst (IsSlowest system p) (same_Some slowest x e) slower.is;
   is = refl;
   few = omega (arith, slower.few);
@@ -411,15 +480,25 @@ module _ (system now : Searched) (p n : ℕ) (same : now ≡ responding system p
   pub now_below : NoSchedule now → AllBelow system p n
   now_below none = all_below system p n (subst NoSchedule same none)
 
-  pub now_below_within : (depth : ℕ) → NoScheduleWithin now depth → AllBelowWithin system p n depth
-  now_below_within depth none = all_below_within system p n depth (subst (λ (s : Searched). NoScheduleWithin s depth) same none)
+  pub now_full : (depth room : ℕ) → NoScheduleWithin now depth × IsRoomUsedUp now room depth
+      → AllBelowWithin system p n depth × IsRoomUsedUp (responding system p n) room depth
+  now_full depth room says = (
+    all_below_within system p n depth (subst (λ (s : Searched). NoScheduleWithin s depth) same says.0),
+    subst (λ (s : Searched). IsRoomUsedUp s room depth) same says.1,
+  )
 
   module _ (path : List ℕ) (shortest : IsShortestSchedule now path) where
     there : IsShortestSchedule (responding system p n) path
     there = subst (λ (s : Searched). IsShortestSchedule s path) same shortest
 
-    pub now_beyond : (limit : ℕ) → limit < length path → AllBelowWithin system p n limit
-    now_beyond limit past = all_below_within system p n limit (none_shorter system p n path limit there past)
+    pub now_beyond : IsPace now.pace → IsLawful now.table → FormsReach now.table → OfEachTable FormsStandFor
+        → (limit : ℕ) → limit < length path → AllBelowWithin system p n limit × HasResponseBeyond system p n limit
+    now_beyond is_pace lawful bounds alike limit past = (
+      all_below_within system p n limit (none_shorter system p n path limit there past),
+      response_beyond system (subst (λ (s : Searched). IsPace s.pace) same is_pace)
+          (subst (λ (s : Searched). IsLawful s.table) same lawful) (subst (λ (s : Searched). FormsReach s.table) same bounds) alike
+          p n limit (schedule_of (responding system p n) path) (omega (arith, past, there.many)) there.leads,
+    )
 
     module _ (events : List Event) (job : Job) (is : IsJobOf now p path events job) where
       its_job : IsJobOf (responding system p n) p path events job

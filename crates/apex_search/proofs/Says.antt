@@ -8,7 +8,7 @@ use Rattle.apex_pace.specs.Laws.{IsPace}
 use Rattle.apex_pace.specs.Pace.{paced_opening}
 use Rattle.apex_alike.proofs.Canonical.{canonical_situation}
 use Rattle.apex_search.specs.Answers.{SaysOfSchedules}
-use Rattle.apex_recall.specs.Reached.{HasUsualCalls, IsReached}
+use Rattle.apex_recall.specs.Reached.{IsReached}
 use Rattle.apex_search.specs.Steps.{Searched, choices_of, search_start, search_step}
 use Rattle.apex_search.specs.Terms.{Pace}
 use Rattle.apex_recall.proofs.Exact.{words_exact}
@@ -18,9 +18,9 @@ use Rattle.apex_recall.proofs.ReachedNext.{forms_reach}
 use Rattle.apex_search.proofs.Schedules.{Stand, says_of_schedules}
 use Rattle.apex_search.proofs.Shifted.{form_event}
 
-stand : (pace : Pace) → IsPace pace → (table : Table) → IsLawful table → HasUsualCalls table → Stand pace table (IsReached table)
-stand pace is_pace table lawful usual =
-    let reach = forms_reach table lawful usual in
+stand : (pace : Pace) → IsPace pace → (table : Table) → IsLawful table → Stand pace table (IsReached table)
+stand pace is_pace table lawful =
+    let reach = forms_reach table lawful in
     let start = paced_opening table in
     record {
       opens = reach.opens;
@@ -33,8 +33,8 @@ stand pace is_pace table lawful usual =
       words = forms_have_words table;
     }
 
-pub says : (system : Searched) → IsPace system.pace → IsLawful system.table → HasUsualCalls system.table
+pub says : (system : Searched) → IsPace system.pace → IsLawful system.table
     → (room : ℕ) (answer : Answer) → Says (step_within (choices_of system) (search_step system)) (search_start system) room answer
-    → SaysOfSchedules system answer
-says system is_pace lawful usual =
-    says_of_schedules system (IsReached system.table) (stand system.pace is_pace system.table lawful usual)
+    → SaysOfSchedules system room answer
+says system is_pace lawful =
+    says_of_schedules system (IsReached system.table) (stand system.pace is_pace system.table lawful)

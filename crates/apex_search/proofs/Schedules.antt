@@ -17,7 +17,7 @@ use Rattle.apex_choices.specs.Counts.{IsSamePaced}
 use Rattle.apex_recall.specs.Laws.{FormsHaveWords}
 use Rattle.apex_search.specs.Laws.{StandsFor, StepsFor}
 use Rattle.apex_recall.specs.Restored.{paced_from}
-use Rattle.apex_search.specs.Steps.{Searched, choices_of, search_start, search_step, step_by}
+use Rattle.apex_search.specs.Steps.{Searched, choices_of, makes as makes_of, search_start, search_step, step_by}
 use Rattle.apex_choices.specs.Choices.{event_of}
 use Rattle.apex_recall.specs.Formed.{form_words}
 use Rattle.apex_search.specs.Terms.{Event, Pace}
@@ -88,7 +88,7 @@ module _ (system : Searched) (Here : Paced → Type 0) (stand : Stand system.pac
   table = system.table
 
   abbrev makes : List ℕ → ℕ → Step (List ℕ)
-  makes = step_within (choices_of system) (search_step system)
+  makes = makes_of system
 
   -- a form that represents the situation
   record At (s : Paced) : Type 0 where
@@ -319,7 +319,7 @@ module _ (system : Searched) (Here : Paced → Type 0) (stand : Stand system.pac
       (has_hit leads.earlier leads.last start (subst (KeepsPace pace table (paced_opening table)) leads.is leads.keeps) leads.has)
 
   -- so an answer about the words says as much of the schedules
-  pub says_of_schedules : (room : ℕ) (answer : Answer) → Says makes (search_start system) room answer → SaysOfSchedules system answer
+  pub says_of_schedules : (room : ℕ) (answer : Answer) → Says makes (search_start system) room answer → SaysOfSchedules system room answer
   says_of_schedules room (Found path) (hit, shortest) =
       let found = hit_is path.items hit in
       record {
@@ -329,4 +329,4 @@ module _ (system : Searched) (Here : Paced → Type 0) (stand : Stand system.pac
       }
   says_of_schedules room (Closed states) says = λ events leads. let has = found_in events leads in says.0 has.path has.hit
   says_of_schedules room (Full depth) says =
-      λ events short leads. let has = found_in events leads in says.0 has.path (le_trans has.short short) has.hit
+      (λ events short leads. let has = found_in events leads in says.0 has.path (le_trans has.short short) has.hit, says.1)

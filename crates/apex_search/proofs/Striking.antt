@@ -9,11 +9,11 @@ use Rattle.apex_laws.specs.Laws.{OfEachTable}
 use Rattle.apex_machine.specs.table.Table.{IsLawful}
 use Rattle.apex_pace.specs.Laws.{IsPace}
 use Rattle.apex_search.specs.Answers.{IsShortestSchedule}
-use Rattle.apex_search.specs.Census.{IsOneOf, alone, asking, makes}
+use Rattle.apex_search.specs.Census.{IsOneOf, alone, asking}
 use Rattle.apex_recall.specs.Laws.{FormsHaveWords, FormsReach, WordsAreExact}
 use Rattle.apex_search.specs.Laws.{FormsStandFor}
 use Rattle.apex_recall.specs.Reached.{IsReached}
-use Rattle.apex_search.specs.Steps.{Searched, search_start}
+use Rattle.apex_search.specs.Steps.{Searched, makes, search_start}
 use Rattle.apex_search.specs.Terms.{Fact}
 use Rattle.apex_search.proofs.Along.{stand}
 use Rattle.apex_search.proofs.Censuses.{has_place, one_hits, shortest_alone}

@@ -1,12 +1,13 @@
 -- What an answer of a search says of the schedules of a pace.
-use Rattle.std.specs.Prelude.{◌≡◌, ℕ, ◌≤◌, true, List, [], ◌∷◌, ◌++◌, length, Option, None, Some}
+use Rattle.std.specs.Prelude.{◌≡◌, ℕ, ◌+◌, ◌≤◌, true, List, [], ◌∷◌, ◌++◌, length, Option, None, Some}
+use Rattle.apex_explore.specs.Paths.{ReachesWithin}
 use Rattle.apex_explore.specs.declared.answers.Answer.{Answer}
 use Rattle.apex_explore.specs.declared.answers.Answer.TheVariants.{Found, Closed, Full}
 use Rattle.apex_machine.specs.Situations.{deed}
 use Rattle.apex_machine.specs.table.Table.{Table}
 use Rattle.apex_pace.specs.Pace.{KeepsPace, Paced, paced_opening, paced_run, paced_step}
 use Rattle.apex_search.specs.Facts.{has_fact}
-use Rattle.apex_search.specs.Steps.{Searched}
+use Rattle.apex_search.specs.Steps.{Searched, makes, search_start}
 use Rattle.apex_choices.specs.Choices.{event_of}
 use Rattle.apex_search.specs.Terms.{Event}
 
@@ -51,8 +52,15 @@ abbrev pub NoScheduleWithin : Searched → ℕ → Type 0
 NoScheduleWithin system depth =
     (events : List Event) → length events ≤ depth → LeadsToFact system events → ⊥
 
--- the statement of an answer; the number of states says nothing of schedules
-abbrev pub SaysOfSchedules : Searched → Answer → Type 0
-SaysOfSchedules system (Found path) = IsShortestSchedule system path.items
-SaysOfSchedules system (Closed states) = NoSchedule system
-SaysOfSchedules system (Full depth) = NoScheduleWithin system depth
+-- the room for this many states is used up: paths of at most depth + 1 choices lead to more states
+abbrev pub IsRoomUsedUp : Searched → ℕ → ℕ → Type 0
+IsRoomUsedUp system room depth =
+    ReachesWithin (makes system) (search_start system) (depth + 1) (room + 1)
+
+-- the statement of an answer of a search with room for this many states; the number of states that
+-- were reached says nothing of schedules
+abbrev pub SaysOfSchedules : Searched → ℕ → Answer → Type 0
+SaysOfSchedules system room (Found path) = IsShortestSchedule system path.items
+SaysOfSchedules system room (Closed states) = NoSchedule system
+SaysOfSchedules system room (Full depth) =
+    NoScheduleWithin system depth × IsRoomUsedUp system room depth

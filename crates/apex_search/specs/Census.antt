@@ -1,16 +1,15 @@
 -- A census: which of the facts that are asked for can happen, and how soon.
-use Rattle.std.specs.Prelude.{◌≡◌, ◌⊎◌, ℕ, not, List, [], ◌∷◌}
+use Rattle.std.specs.Prelude.{◌≡◌, ◌≢◌, ◌≤◌, ◌⊎◌, ℕ, AllPairs, not, List, [], ◌∷◌, length}
 use Rattle.std.specs.List.{filter}
 use Rattle.apex_explore.specs.Paths.{IsHit}
 use Rattle.apex_explore.specs.Searches.{IsOver, IsSearched}
-use Rattle.apex_explore.specs.Systems.{Step, step_within}
 use Rattle.apex_explore.specs.declared.answers.Answer.{Answer}
 use Rattle.apex_explore.specs.declared.answers.Answer.TheVariants.{Found}
 use Rattle.apex_explore.specs.declared.searches.Search.{Search}
-use Rattle.apex_search.specs.Answers.{IsShortestSchedule, NoSchedule, NoScheduleWithin}
+use Rattle.apex_search.specs.Answers.{IsRoomUsedUp, IsShortestSchedule, NoSchedule, NoScheduleWithin}
 use Rattle.apex_questions.specs.Facts.{is_fact}
 use Rattle.apex_recall.specs.Formed.{IsForm}
-use Rattle.apex_search.specs.Steps.{IsWorkplace, Searched, choices_of, search_start, search_step}
+use Rattle.apex_search.specs.Steps.{IsWorkplace, Searched, makes, search_start}
 use Rattle.apex_forms.specs.Stored.{word_count}
 use Rattle.apex_search.specs.Terms.{Fact}
 use Rattle.apex_search.specs.declared.census.Census.{Census}
@@ -52,23 +51,31 @@ abbrev pub facts_of : List Finding → List Fact
 facts_of [] = []
 facts_of (finding ∷ others) = finding.fact ∷ facts_of others
 
--- what the end of a search says of a fact that was not found
-abbrev pub EndSays : Searched → End → Type 0
-EndSays system (ends.Closed states) = NoSchedule system
-EndSays system (ends.Full depth) = NoScheduleWithin system depth
+-- the path to the one fact is no longer than that to the other
+abbrev pub IsNoLater : Finding → Finding → Type 0
+IsNoLater one other = length one.path.items ≤ length other.path.items
 
--- each finding is right, the end says of each other fact what a search for it alone would say, and
--- each fact that is asked for is found or one of the others
-pub record IsCensus (system : Searched) (census : Census) : Type 0 where
+-- what the end of a search with room for this many states says of the facts that were not found
+abbrev pub EndSays : Searched → ℕ → End → Type 0
+EndSays system room (ends.Closed states) = NoSchedule system
+EndSays system room (ends.Full depth) =
+    NoScheduleWithin system depth × IsRoomUsedUp system room depth
+
+-- each finding is right, the shortest paths come first, and no fact is found twice; the end says of the
+-- other facts what a search for them would say, and of each of them what a search for it alone would,
+-- with the same room for states; and each fact that is asked for is found or one of the others, and
+-- none is both
+pub record IsCensus (system : Searched) (room : ℕ) (census : Census) : Type 0 where
   pub found : AreFindings system census.found.items
+  pub in_order : AllPairs IsNoLater census.found.items
+  pub once : AllPairs (λ one other. one.fact ≢ other.fact) census.found.items
+  pub left : EndSays (asking system census.others) room census.end
   pub others : (fact : Fact) → IsOneOf fact census.others
-      → IsOneOf fact system.question.facts × EndSays (alone system fact) census.end
+      → IsOneOf fact system.question.facts × EndSays (alone system fact) room census.end
   pub whole : (fact : Fact) → IsOneOf fact system.question.facts
       → IsOneOf fact (facts_of census.found.items) ⊎ IsOneOf fact census.others
-
--- what a choice does in the words of a state
-abbrev pub makes : Searched → List ℕ → ℕ → Step (List ℕ)
-makes system = step_within (choices_of system) (search_step system)
+  pub apart : (fact : Fact) → IsOneOf fact (facts_of census.found.items)
+      → IsOneOf fact census.others → ⊥
 
 -- the search is one of this system, or was one that asked for more
 pub record IsSearchOf (system : Searched) (search : Search Workplace) : Type 0 where

@@ -7,7 +7,7 @@ use Rattle.apex_pace.specs.Laws.{IsPace}
 use Rattle.apex_pace.specs.Pace.{Paced, is_allowed, paced_step}
 use Rattle.apex_search.specs.Facts.{has_fact}
 use Rattle.apex_forms.specs.Forms.{canonical_paced, kept_turns, kept_worked}
-use Rattle.apex_recall.specs.Reached.{HasUsualCalls, IsReached}
+use Rattle.apex_recall.specs.Reached.{IsReached}
 use Rattle.apex_explore.specs.Answers.{Says}
 use Rattle.apex_explore.specs.Systems.{step_within}
 use Rattle.apex_explore.specs.declared.answers.Answer.{Answer}
@@ -43,8 +43,8 @@ FormsStandFor table = (pace : Pace) → IsPace pace → (form : Paced) → IsRea
 
 -- an answer about the words of a search says as much of the schedules of the pace
 abbrev pub AnswersSay : Table → Type 0
-AnswersSay table = HasUsualCalls table → (pace : Pace) → IsPace pace → (question : Question) →
+AnswersSay table = (pace : Pace) → IsPace pace → (question : Question) →
     let system : Searched = record { table = table; pace = pace; question = question } in
     (room : ℕ) (answer : Answer)
     → Says (step_within (choices_of system) (search_step system)) (search_start system) room answer
-    → SaysOfSchedules system answer
+    → SaysOfSchedules system room answer

@@ -1,7 +1,7 @@
 -- The transition system of a table under a pace: its states are words, and its choices are a turn of
 -- each core and the tick that may come.
-use Rattle.std.specs.Prelude.{◌≡◌, ℕ, ◌+◌, ◌≤◌, false, List, Option, None, Some, if◌then◌else◌}
-use Rattle.apex_explore.specs.Systems.{Step, refuses, goes, hits}
+use Rattle.std.specs.Prelude.{◌≡◌, ℕ, ◌+◌, ◌≤◌, List, Option, None, Some, if◌then◌else◌}
+use Rattle.apex_explore.specs.Systems.{Step, refuses, goes, hits, step_within}
 use Rattle.apex_machine.specs.Situations.{deed}
 use Rattle.apex_machine.specs.table.Table.{Table}
 use Rattle.apex_pace.specs.Pace.{Paced, paced_opening, paced_step}
@@ -40,6 +40,10 @@ abbrev pub search_step : Searched → List ℕ → ℕ → Step (List ℕ)
 search_step system words choice =
     let s = paced_from system.table words in
     step_by system s (event_of system.pace system.table s choice)
+
+-- what a choice does in the words of a state; one that the system does not have is refused
+abbrev pub makes : Searched → List ℕ → ℕ → Step (List ℕ)
+makes system = step_within (choices_of system) (search_step system)
 
 -- the first state: the form of the situation before any event
 abbrev pub search_start : Searched → List ℕ

@@ -1,5 +1,5 @@
 -- The greatest response of a process: what a search for it says of the schedules of a pace.
-use Rattle.std.specs.Prelude.{◌≡◌, ℕ, ◌+◌, ◌-◌, ◌^◌, ◌<◌, ◌≤◌, All, List, [], ◌∷◌, ◌++◌, length, Option, None, Some, option_map}
+use Rattle.std.specs.Prelude.{◌≡◌, ℕ, ◌+◌, ◌-◌, ◌^◌, ◌<◌, ◌≤◌, ◌⊎◌, All, List, [], ◌∷◌, ◌++◌, length, Option, None, Some, option_map}
 use Rattle.std.specs.Option.{ForSome}
 use Rattle.apex_explore.specs.declared.searches.Search.{Search}
 use Rattle.apex_machine.specs.Events.{IsWithin}
@@ -7,7 +7,7 @@ use Rattle.apex_machine.specs.Situations.{deed}
 use Rattle.apex_machine.specs.processes.Periods.{IsReleased}
 use Rattle.apex_machine.specs.processes.Roster.{Roster, record_at}
 use Rattle.apex_pace.specs.Pace.{KeepsPace, Paced, paced_opening, paced_run}
-use Rattle.apex_search.specs.Answers.{schedule_of}
+use Rattle.apex_search.specs.Answers.{IsRoomUsedUp, schedule_of}
 use Rattle.apex_search.specs.Census.{IsSearchOf}
 use Rattle.apex_search.specs.Facts.{Shown, shown_of}
 use Rattle.apex_forms.specs.Forms.{canonical_paced}
@@ -83,21 +83,20 @@ pub record IsOverrun (system : Searched) (p period : ℕ) (schedule : List Event
       → LeadsToResponse system p period response other → period < response
       → length schedule ≤ length other
 
+-- a schedule has a response of process p of at least this many ticks, or of more than a period, and it
+-- has more events than the limit
+pub record HasResponseBeyond (system : Searched) (p ticks limit : ℕ) : Type 0 where
+  pub events : List Event
+  pub period : ℕ
+  pub response : ℕ
+  pub leads : LeadsToResponse system p period response events
+  pub great : (ticks ≤ response) ⊎ (period < response)
+  pub longer : limit < length events
+
 -- the first number of ticks above this response, or 0 if there is none
 abbrev pub above : Option Slowest → ℕ
 above None = 0
 above (Some slowest) = slowest.response + 1
-
--- what the search says of the responses of process p
-abbrev pub IsWorst : Searched → ℕ → Worst → Type 0
-IsWorst system p (Greatest found states) =
-    ForSome found (IsSlowest system p) × AllBelow system p (above found)
-IsWorst system p (Overrun schedule period) = IsOverrun system p period schedule.items
-IsWorst system p (Full found depth) =
-    ForSome found (IsSlowest system p) × AllBelowWithin system p (above found) depth
-IsWorst system p (Beyond found limit) =
-    ForSome found (IsSlowest system p) × (limit ≡ system.table.limit)
-    × AllBelowWithin system p (above found) limit
 
 -- the same system with the question for a response of process p of at least this many ticks, or of
 -- more than a period
@@ -105,6 +104,19 @@ abbrev pub responding : Searched → ℕ → ℕ → Searched
 responding system p ticks = record system {
   question = record { facts = Response ticks ∷ []; process = Some p; service = None };
 }
+
+-- what a search with room for this many states says of the responses of process p
+abbrev pub IsWorst : Searched → ℕ → ℕ → Worst → Type 0
+IsWorst system p room (Greatest found states) =
+    ForSome found (IsSlowest system p) × AllBelow system p (above found)
+IsWorst system p room (Overrun schedule period) = IsOverrun system p period schedule.items
+IsWorst system p room (Full found depth) =
+    ForSome found (IsSlowest system p) × AllBelowWithin system p (above found) depth
+    × IsRoomUsedUp (responding system p (above found)) room depth
+IsWorst system p room (Beyond found limit) =
+    ForSome found (IsSlowest system p) × (limit ≡ system.table.limit)
+    × AllBelowWithin system p (above found) limit
+    × HasResponseBeyond system p (above found) limit
 
 -- the job has a response of at least this many ticks, and the search asks for a greater one now
 pub record IsSlower (system now : Searched) (p least : ℕ) (search : Search Workplace)
@@ -115,16 +127,19 @@ pub record IsSlower (system now : Searched) (p least : ℕ) (search : Search Wor
   pub asks : now ≡ responding system p (slowest.response + 1)
   pub of : IsSearchOf now search
 
--- what a search on for a response of process p of at least this many ticks says
-abbrev pub IsRound : Searched → Searched → ℕ → ℕ → Search Workplace → Round → Type 0
-IsRound system now p least search (rounds.Slower slowest) =
+-- what a search on for a response of process p of `least` ticks or more says, with room for `room`
+-- states
+abbrev pub IsRound : Searched → Searched → ℕ → ℕ → ℕ → Search Workplace → Round → Type 0
+IsRound system now p least room search (rounds.Slower slowest) =
     IsSlower system now p least search slowest
-IsRound system now p least search (rounds.Overrun schedule period) =
+IsRound system now p least room search (rounds.Overrun schedule period) =
     IsOverrun system p period schedule.items
-IsRound system now p least search (rounds.Closed states) = AllBelow system p least
-IsRound system now p least search (rounds.Full depth) = AllBelowWithin system p least depth
-IsRound system now p least search (rounds.Beyond limit) =
+IsRound system now p least room search (rounds.Closed states) = AllBelow system p least
+IsRound system now p least room search (rounds.Full depth) =
+    AllBelowWithin system p least depth × IsRoomUsedUp (responding system p least) room depth
+IsRound system now p least room search (rounds.Beyond limit) =
     (limit ≡ system.table.limit) × AllBelowWithin system p least limit
+    × HasResponseBeyond system p least limit
 
 -- the period of process p, if it has one, and the ticks since its last release
 abbrev pub last_job : Roster → ℕ → Option Job

@@ -1,9 +1,10 @@
 //! One search for all facts of a question: which of them can happen, and how soon.
 ghost use Rattle.std.specs.Prelude.{◌≡◌, IfOk};
 ghost use Rattle.apex_explore.specs.Paths.{IsHit};
+ghost use Rattle.apex_explore.specs.Searches.{room_of};
 ghost use Rattle.apex_search.specs.Answers.{IsShortestSchedule, SaysOfSchedules};
-ghost use Rattle.apex_search.specs.Census.{FoundHits, IsCensus, IsOneOf, IsSearchOf, alone, asking, makes, without};
-ghost use Rattle.apex_search.specs.Steps.{search_start};
+ghost use Rattle.apex_search.specs.Census.{FoundHits, IsCensus, IsOneOf, IsSearchOf, alone, asking, without};
+ghost use Rattle.apex_search.specs.Steps.{makes, search_start};
 
 use crate::laws::forms_stand_for_situations;
 use crate::systems::{TableSystem, Workplace};
@@ -57,9 +58,10 @@ impl TableSystem {
         watch: &mut V,
     ) -> Result<Answer, AllocError>
         requires { IsSearchOf self.now search.old }
-        ensures says { IfOk result (SaysOfSchedules self.now) }
+        ensures says { IfOk result (SaysOfSchedules self.now (room_of search.old)) }
         ensures hits { IfOk result (FoundHits self.now) }
         ensures search { IfOk result (λ _. IsSearchOf self.now search.new) }
+        ensures room { IfOk result (λ _. room_of search.new ≡ room_of search.old) }
     {
         self.lawful();
         words_are_exact();
@@ -102,7 +104,7 @@ impl TableSystem {
         watch: &mut V,
     ) -> Result<Census, AllocError>
         requires { IsSearchOf self.old search.old }
-        ensures { IfOk result (IsCensus self.old) }
+        ensures { IfOk result (IsCensus self.old (room_of search.old)) }
     {
         let mut found = Vec::new(alloc);
         loop {
@@ -127,7 +129,7 @@ impl TableSystem {
         jobs: &Jobs<'_, R>,
         watch: &mut V,
     ) -> Result<Census, AllocError>
-        ensures { IfOk result (IsCensus self) }
+        ensures { IfOk result (IsCensus self room) }
     {
         let mut search = Search::new(alloc, &self, room)?;
         let census = self.find_all(alloc, &mut search, jobs, watch);

@@ -195,7 +195,7 @@ impl TableSystem {
         jobs: &Jobs<'_, R>,
         watch: &mut V,
     ) -> Result<Answer, AllocError>
-        ensures { IfOk result (SaysOfSchedules self.now) }
+        ensures { IfOk result (SaysOfSchedules self.now room) }
     {
         self.table.lawful();
         words_are_exact();

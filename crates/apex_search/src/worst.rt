@@ -1,11 +1,13 @@
 //! The greatest response of a process.
 ghost use Rattle.std.specs.Prelude.{◌≡◌, ℕ, IfOk, option_map};
+ghost use Rattle.apex_explore.specs.Searches.{room_of};
 ghost use Rattle.apex_search.specs.Answers.{LeadsToFact, schedule_of};
 ghost use Rattle.apex_search.specs.Census.{IsSearchOf};
 ghost use Rattle.apex_choices.specs.Counts.{paced_in};
 ghost use Rattle.apex_search.specs.Steps.{Searched};
 ghost use Rattle.apex_search.specs.Worst.{IsJobOf, IsRound, IsWorst, last_job, responding, schedule_in};
 
+use crate::laws::forms_stand_for_situations;
 use crate::systems::{TableSystem, Workplace};
 use apex_choices::PacedSituation;
 use apex_explore::{Answer, Search, Watch};
@@ -47,8 +49,8 @@ pub enum Worst {
         found: Option<Slowest>,
         depth: usize,
     },
-    /// No schedule for whose entries the history has room, for `limit` of them, has a greater response
-    /// than that of `found`, or any if it is none.
+    /// No schedule of at most `limit` events, for as many entries as the history has room for, has a
+    /// greater response than that of `found`, or any if it is none, but a longer one does.
     Beyond {
         found: Option<Slowest>,
         limit: u32,
@@ -66,7 +68,8 @@ enum Round {
     Closed { states: usize },
     /// No schedule of at most `depth` events has one.
     Full { depth: usize },
-    /// No schedule for whose entries the history has room has one.
+    /// No schedule of at most `limit` events, for as many entries as the history has room for, has
+    /// one, but a longer one does.
     Beyond { limit: u32 },
 }
 
@@ -128,8 +131,9 @@ impl TableSystem {
     ) -> Result<Round, AllocError>
         requires asks { self.old ≡ responding self.old process least }
         requires search { IsSearchOf self.old search.old }
-        ensures { (system : Searched) → self.old ≡ responding system process least
-            → IfOk result (IsRound system self.new process least search.new) }
+        ensures says { (system : Searched) → self.old ≡ responding system process least
+            → IfOk result (IsRound system self.new process least (room_of search.old) search.new) }
+        ensures room { IfOk result (λ _. room_of search.new ≡ room_of search.old) }
     {
         let path = match self.go_on(alloc, search, jobs, watch)? {
             Answer::Found(path) => path,
@@ -138,6 +142,8 @@ impl TableSystem {
         };
         let limit = self.table().limit();
         if path.len() > limit as usize {
+            self.lawful();
+            forms_stand_for_situations();
             return Ok(Round::Beyond { limit });
         }
         let (schedule, job) = self.job_of(alloc, path.as_slice(), process)?;
@@ -161,7 +167,7 @@ impl TableSystem {
         requires asks { self.old ≡ responding self.old process 0 }
         requires search { IsSearchOf self.old search.old }
         ensures { (system : Searched) → self.old ≡ responding system process 0
-            → IfOk result (IsWorst system process) }
+            → IfOk result (IsWorst system process (room_of search.old)) }
     {
         let mut found = None;
         let mut least = 0;
@@ -196,7 +202,7 @@ impl TableSystem {
         jobs: &Jobs<'_, R>,
         watch: &mut V,
     ) -> Result<Worst, AllocError>
-        ensures { IfOk result (IsWorst self process) }
+        ensures { IfOk result (IsWorst self process room) }
     {
         self.ask_for_response(process, 0);
         let mut search = Search::new(alloc, &self, room)?;

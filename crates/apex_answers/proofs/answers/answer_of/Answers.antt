@@ -12,4 +12,6 @@ pub returns-in-Closed : goal.returns-in-Closed
 returns-in-Closed g c = none _ (rw c.in-Closed.is at c.in_ok-path.ensures)
 
 pub returns-in-Full : goal.returns-in-Full
-returns-in-Full g c = full _ (rw c.in-Full.is at c.in_ok-path.ensures)
+returns-in-Full g c =
+    let says = rw c.in-Full.is at c.in_ok-path.ensures in
+    full _ says.0 says.1

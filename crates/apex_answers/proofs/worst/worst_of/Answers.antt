@@ -9,7 +9,7 @@ pub kernel_after-requires : goal.kernel_after-requires
 kernel_after-requires g c =
     let found : schedule_in c.in_ok-worst.worst ≡ Some c.in-Some.events.now = sym (rw c.in-Some.is at c.schedule.ensures) in
     can_run c.args.system.table c.args.text.now c.in-Some.events.now c.requires
-    (can_show c.args.system c.args.process c.in_ok-worst.worst c.in_ok-worst.ensures c.in-Some.events.now found)
+    (can_show c.args.system c.args.process c.args.room c.in_ok-worst.worst c.in_ok-worst.ensures c.in-Some.events.now found)
 
 pub returns-in_ok-kernel-in-Some : goal.returns-in_ok-kernel-in-Some
 returns-in_ok-kernel-in-Some g c =
@@ -18,7 +18,7 @@ returns-in_ok-kernel-in-Some g c =
     answer_with c.args.system c.args.process c.args.room (record { worst = c.in_ok-worst.worst; kernel = Some c.in_ok-kernel-in-Some.kernel })
     c.in_ok-worst.ensures (Some c.in-Some.events.now) found
     (shows_run c.args.system.table lawful c.args.text.now c.in-Some.events.now c.in_ok-kernel-in-Some.kernel c.requires
-    (can_show c.args.system c.args.process c.in_ok-worst.worst c.in_ok-worst.ensures c.in-Some.events.now found) c.in_ok-kernel-in-Some.ensures)
+    (can_show c.args.system c.args.process c.args.room c.in_ok-worst.worst c.in_ok-worst.ensures c.in-Some.events.now found) c.in_ok-kernel-in-Some.ensures)
 
 pub returns-in-None : goal.returns-in-None
 returns-in-None g c =

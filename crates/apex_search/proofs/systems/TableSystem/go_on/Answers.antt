@@ -1,8 +1,7 @@
 -- What the search answers about the words it says of the schedules.
 use Rattle.apex_explore.proofs.Weaker.{Weakens-refl}
 use Rattle.apex_explore.specs.Searches.{IsSearchedBefore}
-use Rattle.apex_search.specs.Census.{makes}
-use Rattle.apex_search.specs.Steps.{search_start}
+use Rattle.apex_search.specs.Steps.{makes, search_start}
 use Rattle.apex_search.proofs.Along.{says_of}
 use Rattle.apex_search.proofs.systems.TableSystem.go_on.Goals as goal
 
