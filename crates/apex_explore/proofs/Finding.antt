@@ -77,7 +77,7 @@ module _ (step : List ℕ → ℕ → Step (List ℕ)) (place : ℕ) (k : List �
       let among : IsAmong now.states (length now.states) n = record { place = known.0; within = slice_get_within now.states known.0 n known.1; is = known.1 } in
       let same : IsFinding old now (choice + 1) = record { more = so_far.more; made = made_more now now choice (IsFront-refl now.states) so_far.made (subst Kept (sym leads) among) } in
       subst (λ f. IsFinding old f (choice + 1)) (sym e) same
-  IsFinding-put old now new n choice leads paired (inr e) so_far =
+  IsFinding-put old now new n choice leads paired (inr (none, e)) so_far =
       let next : Found = with_find now n (record { parent = place; choice = choice }) in
       let Kept : Step (List ℕ) → Type 0 = λ s. Keeps next.states s in
       let among : IsAmong next.states (length next.states) n = record { place = length now.states; within = omega (arith, length-append now.states (n ∷ [])); is = slice_get-push now.states n } in
@@ -97,7 +97,7 @@ each_made choices step place k old now end past so_far choice =
 
 pub IsFilling-put : (word_count : ℕ) (is_state : List ℕ → Type 0) (old new : Found) (n : List ℕ) (origin : Origin) → IsPut old n origin new → is_state n → IsFilling word_count is_state old → IsFilling word_count is_state new
 IsFilling-put word_count is_state old new n origin (inl (known, e)) holds filling = rw e filling
-IsFilling-put word_count is_state old new n origin (inr e) holds filling = rw e (record {
+IsFilling-put word_count is_state old new n origin (inr (none, e)) holds filling = rw e (record {
   paired = omega (arith, length-append old.origins (origin ∷ []), length-append old.states (n ∷ []), filling.paired);
   width = filling.width;
   states = λ place other is. elim (last_or_before old.states n place other is) [

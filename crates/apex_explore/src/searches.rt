@@ -254,8 +254,8 @@ impl<W: Drop> Search<W> {
         }
     }
 
-    /// Searches on, nearest states first, for a choice of the system that hits: its answer is the
-    /// same as that of a search anew. What the states have in common takes memory, and so does the
+    /// Searches on, nearest states first, for a choice of the system that hits: its answer says what
+    /// that of a search anew says. What the states have in common takes memory, and so does the
     /// path that is found. Fails only for want of it: nothing is known of the search then, so it can
     /// only be dropped.
     pub fn go_on<S: System<Workspace = W>, V: Watch>(

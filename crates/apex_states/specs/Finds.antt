@@ -25,10 +25,11 @@ abbrev pub with_find : Found → List ℕ → Origin → Found
 with_find old k origin =
     record old { states = old.states ++ k ∷ []; origins = old.origins ++ origin ∷ [] }
 
--- a state that is there already stays, and any is put behind the others
+-- a state that is there already stays, and a new one is put behind the others
 abbrev pub IsPut : Found → List ℕ → Origin → Found → Type 0
 IsPut old k origin new =
-    (IsKnown old.states k × (new ≡ old)) ⊎ (new ≡ with_find old k origin)
+    (IsKnown old.states k × (new ≡ old))
+    ⊎ ((IsKnown old.states k → ⊥) × (new ≡ with_find old k origin))
 
 -- the state that was found at this place, and its origin
 pub record IsFind (found : Found) (place : ℕ) (k : List ℕ) (from : Origin) : Type 0 where
