@@ -11,7 +11,7 @@ use Rattle.apex_schedules.specs.declared.groups.Refusal.TheVariants as refusal
 use Rattle.apex_schedules.specs.declared.pieces.Piece.{Piece}
 use Rattle.apex_schedules.specs.declared.pieces.Piece.TheVariants as piece
 use Rattle.apex_schedules.specs.declared.schedule.Item.{Item}
-use Rattle.apex_schedules.specs.Groups.{AreTooMany, items_behind, repeated}
+use Rattle.apex_schedules.specs.Groups.{IsTooMuch, items_behind, repeated}
 use Rattle.apex_schedules.specs.Readings.{AreStarts, IsReading, IsTaken, inner, items_after, outer}
 
 -- items put behind the others are in the innermost group
@@ -61,6 +61,13 @@ grows n items (outer ∷ more) (Some (piece.Close times) ∷ rest) many =
     let copies : List Item = flat_map (λ copy. copy) (replicate (times - 1) items) in
     grows n (outer ++ repeated times items) more rest (omega (arith, many, length-append outer (repeated times items), length-append items copies))
 
+-- each open group can be closed behind the pieces
+closes : (items : List Item) (outers : List (List Item))
+    → (rest : List (Option Piece)) × (xs : List Item) × (items_behind items outers rest ≡ Some xs)
+closes items [] = ([], items, refl)
+closes items (outer ∷ more) =
+    let (rest, xs, is) = closes (outer ++ repeated 1 items) more in (Some (piece.Close 1) ∷ rest, xs, is)
+
 -- each piece
 
 pub item_taken : (items : List Item) (starts : List ℕ) (item : Item) → IsReading items starts → length items < MOST_ENTRIES
@@ -73,9 +80,15 @@ item_taken items starts item reading few =
 
 pub item_refused : (items : List Item) (starts : List ℕ) (item : Item) → IsReading items starts → MOST_ENTRIES ≤ length items
     → IsTaken items starts (Some (piece.Single item)) (Err refusal.TooMany) items starts
-item_refused items starts item reading many = λ rest.
-    grows MOST_ENTRIES (inner items (reverse starts) ++ item ∷ []) (outer items (reverse starts)) rest
-    (omega (arith, many, sizes items (reverse starts) reading.1, length-append (inner items (reverse starts)) (item ∷ [])))
+item_refused items starts item reading many =
+    let longer : List Item = inner items (reverse starts) ++ item ∷ [] in
+    let around : List (List Item) = outer items (reverse starts) in
+    record {
+      many = λ rest.
+          grows MOST_ENTRIES longer around rest
+          (omega (arith, many, sizes items (reverse starts) reading.1, length-append (inner items (reverse starts)) (item ∷ [])));
+      some = closes longer around;
+    }
 
 -- a group is closed: the reading before it, and the items with the group's copies behind them
 closed : (items : List Item) (start : ℕ) (more : List ℕ) (times : ℕ) (rest : List (Option Piece)) → AreStarts (length items) (start ∷ more)
@@ -112,8 +125,8 @@ close_taken items starts all start times new e reading put few =
 
 pub close_refused : (items : List Item) (starts all : List ℕ) (start times : ℕ) → all ≡ starts ++ start ∷ [] → IsReading items all
     → MOST_ENTRIES < length items + (length items - start) * (times - 1)
-    → (rest : List (Option Piece)) → AreTooMany (items_after items all (Some (piece.Close times) ∷ rest))
-close_refused items starts all start times e reading many rest =
+    → IsTooMuch (λ rest. items_after items all (Some (piece.Close times) ∷ rest))
+close_refused items starts all start times e reading many =
     let turned : reverse all ≡ start ∷ reverse starts = ap reverse e ∙ turned_end starts start in
     let ordered : AreStarts (length items) (start ∷ reverse starts) = subst (AreStarts (length items)) turned reading.1 in
     let copies : List Item = flat_map (λ copy. copy) (replicate (times - 1) (drop start items)) in
@@ -121,5 +134,12 @@ close_refused items starts all start times e reading many rest =
     let count : length copies ≡ (length items - start) * (times - 1) =
     copies_length (times - 1) (drop start items) ∙ mul_comm (times - 1) (length (drop start items)) ∙ ap (λ n. n * (times - 1)) (length-drop start items) in
     let size = sizes (items ++ copies) (reverse starts) (more_room start _ (reverse starts) (omega (arith, longer, ordered.0)) ordered.1) in
-    rw (turned, closed items start (reverse starts) times rest ordered)
-    (grows MOST_ENTRIES (inner (items ++ copies) (reverse starts)) (outer (items ++ copies) (reverse starts)) rest (omega (arith, size, longer, count, many)))
+    let written : List Item = inner (items ++ copies) (reverse starts) in
+    let around : List (List Item) = outer (items ++ copies) (reverse starts) in
+    let (end, xs, is) = closes written around in
+    record {
+      many = λ rest.
+          rw (turned, closed items start (reverse starts) times rest ordered)
+          (grows MOST_ENTRIES written around rest (omega (arith, size, longer, count, many)));
+      some = (end, xs, rw turned (closed items start (reverse starts) times end ordered ∙ is));
+    }

@@ -6,4 +6,5 @@ pub mod ReadBack
 pub mod Fewest
 pub mod Words
 pub mod Levels
+pub mod Taken
 pub mod Plain

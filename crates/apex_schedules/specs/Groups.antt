@@ -62,13 +62,30 @@ items_behind items [] (Some (piece.Close times) ∷ rest) = None
 items_behind items (outer ∷ more) (Some (piece.Close times) ∷ rest) =
     items_behind (outer ++ repeated times items) more rest
 
+-- the pieces of a text
+abbrev pub pieces_of : List ℕ → List (Option Piece)
+pieces_of text = map piece_of (filled (words text))
+
 -- the items of a text with groups, each group written out as often as it comes
 abbrev pub grouped_items_of : List ℕ → Option (List Item)
-grouped_items_of text = items_behind [] [] (map piece_of (filled (words text)))
+grouped_items_of text = items_behind [] [] (pieces_of text)
 
 -- the items are too many, if there are any
 abbrev pub AreTooMany : Option (List Item) → Type 0
 AreTooMany items = IfSome items (λ xs. MOST_ENTRIES < length xs)
+
+-- whatever pieces come behind, the items that are written out with them are too many, if there are
+-- any; and there are some with some such pieces
+pub record IsTooMuch (items_with : List (Option Piece) → Option (List Item)) : Type 0 where
+  pub many : (rest : List (Option Piece)) → AreTooMany (items_with rest)
+  pub some : (rest : List (Option Piece)) × (items : List Item) × (items_with rest ≡ Some items)
+
+-- the first pieces of the text write out too many items, whatever pieces come behind them
+pub record BeginsWithTooMany (text : List ℕ) : Type 0 where
+  pub first : List (Option Piece)
+  pub rest : List (Option Piece)
+  pub parts : pieces_of text ≡ first ++ rest
+  pub too_much : IsTooMuch (λ others. items_behind [] [] (first ++ others))
 
 -- in the text spaces alone end words: it has no line feed and no bracket
 abbrev pub HasNoGroups : List ℕ → Type 0

@@ -9,7 +9,7 @@ use Rattle.apex_schedules.specs.declared.groups.ScheduleFault.{ScheduleFault}
 use Rattle.apex_schedules.specs.declared.groups.ScheduleFault.TheVariants as fault
 use Rattle.apex_schedules.specs.declared.pieces.Piece.{Piece}
 use Rattle.apex_schedules.specs.declared.schedule.Item.{Item}
-use Rattle.apex_schedules.specs.Groups.{AreTooMany, grouped_items_of, items_behind}
+use Rattle.apex_schedules.specs.Groups.{BeginsWithTooMany, IsTooMuch, grouped_items_of, items_behind}
 
 -- the items of the innermost open group; the starts are those of the groups, innermost first
 abbrev pub inner : List Item → List ℕ → List Item
@@ -43,7 +43,7 @@ IsTaken items starts piece (Ok done) new_items new_starts =
 IsTaken items starts piece (Err refusal.IllFormed) new_items new_starts =
     (rest : List (Option Piece)) → items_after items starts (piece ∷ rest) ≡ None
 IsTaken items starts piece (Err refusal.TooMany) new_items new_starts =
-    (rest : List (Option Piece)) → AreTooMany (items_after items starts (piece ∷ rest))
+    IsTooMuch (λ rest. items_after items starts (piece ∷ rest))
 IsTaken items starts piece (Err refusal.Memory) new_items new_starts = ⊤
 
 -- the fault of a refusal at a place
@@ -59,7 +59,7 @@ IsWithin text place = (place.byte ≤ length text) × (1 ≤ place.item) × (pla
 -- the text has this fault
 abbrev pub IsFaultOf : List ℕ → ScheduleFault → Type 0
 IsFaultOf text (fault.IllFormed place) = (grouped_items_of text ≡ None) × IsWithin text place
-IsFaultOf text (fault.TooMany place) = AreTooMany (grouped_items_of text) × IsWithin text place
+IsFaultOf text (fault.TooMany place) = BeginsWithTooMany text × IsWithin text place
 IsFaultOf text fault.Memory = ⊤
 
 -- the text has these items, and they are not too many
