@@ -19,11 +19,12 @@ replaced word instead = record { word = word; instead = Some instead }
 abbrev pub without : List ℕ → LeftOut
 without word = record { word = word; instead = None }
 
--- all of them: preemption, mutexes, sampling ports, queuing ports, and health monitoring
+-- all of them: preemption, indices of processes, mutexes, sampling ports, queuing ports, and health monitoring
 abbrev pub left_out : List LeftOut
 left_out =
     replaced (codes "LOCK_PREEMPTION") (codes "ACQUIRE_MUTEX")
     ∷ replaced (codes "UNLOCK_PREEMPTION") (codes "RELEASE_MUTEX")
+    ∷ replaced (codes "GET_MY_INDEX") (codes "GET_MY_ID")
     ∷ without (codes "RESET_MUTEX")
     ∷ replaced (codes "GET_PROCESS_MUTEX_STATE") (codes "GET_MUTEX_STATUS")
     ∷ replaced (codes "CREATE_SAMPLING_PORT") (codes "CREATE_BLACKBOARD")

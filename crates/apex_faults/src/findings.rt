@@ -4,6 +4,8 @@ ghost use Rattle.std.specs.List.{All};
 ghost use Rattle.apex_faults.specs.Findings.{named_faults};
 ghost use Rattle.apex_faults.specs.Locations.{IsLocationIn};
 ghost use Rattle.apex_faults.specs.Terms.{Finding};
+ghost use Rattle.apex_faults.specs.declared.findings.TheConstants.{LONGEST_LISTED};
+ghost use Rattle.apex_faults.specs.declared.listing.TheConstants.{MOST_FAULTS};
 
 use crate::explaining::explain;
 use crate::listing::faults;
@@ -18,6 +20,12 @@ use toml::Value;
 
 /// The most bytes of a text whose faults are all named.
 pub const LONGEST_LISTED: usize = 262_144;
+
+/// Each limit is the number of this profile.
+pub fn limits_of_the_profile()
+    ensures most_faults { MOST_FAULTS ≡ 100 }
+    ensures longest_listed { LONGEST_LISTED ≡ 262144 }
+{}
 
 /// A fault, where it stands in the text, and what is to be said of it.
 #[derive(Drop)]

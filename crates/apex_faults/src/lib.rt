@@ -18,7 +18,7 @@ mod suggestions;
 mod wanted;
 mod wordings;
 
-pub use findings::{Finding, LONGEST_LISTED, findings_of};
+pub use findings::{Finding, LONGEST_LISTED, findings_of, limits_of_the_profile};
 pub use listing::{MOST_FAULTS, faults};
 pub use locations::{Location, locate};
 pub use outside::{LeftOut, left_out};

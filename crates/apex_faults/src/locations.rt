@@ -147,24 +147,22 @@ fn word_in(text: &[u8], place: usize) -> &[u8]
     rest
 }
 
-/// The text from the step on: from that of a script, or from that of the init list.
-fn step<'t>(text: &'t [u8], entry: &'t [u8], section: Section, place: usize) -> &'t [u8]
-    requires { length entry.now ≤ length text.now }
-    ensures { length result.now ≤ length text.now }
+/// The text from the step at this place on: a step of the init list if the section is that, or else
+/// one of a script. The key of the list or of the script is looked for in `body`.
+fn step<'t>(body: &'t [u8], section: Section, place: usize) -> Option<&'t [u8]>
+    ensures { IfSome result (λ step. length step.now ≤ length body.now) }
 {
-    let found = if section == Section::Init {
-        key_in(text, section.word())
-    } else {
-        key_in(entry, Key::Script.word())
+    let word = match section {
+        Section::Init => section.word(),
+        _ => Key::Script.word(),
     };
-    match found {
-        Some(script) => element(script.value, place),
-        None => entry,
-    }
+    let steps = key_in(body, word)?;
+    Some(element(steps.value, place))
 }
 
-/// The text from the header of the place on, and from behind it; from its key at the top on, if it
-/// has no header.
+/// The text from the header of the place on, and the text after the header, which has its keys. If
+/// it has no header: the text from its section's key at the top on, and none, since the entries of
+/// an array at the top are not told apart. The init list is such a key itself.
 fn place_in<'t>(text: &'t [u8], place: Place) -> (&'t [u8], &'t [u8])
     ensures { (length result.0.now ≤ length text.now) × (length result.1.now ≤ length text.now) }
 {
@@ -173,12 +171,13 @@ fn place_in<'t>(text: &'t [u8], place: Place) -> (&'t [u8], &'t [u8])
         Section::Init => None,
         section => header_of(text, section.word(), place.number),
     };
-    match found {
-        Some(header) => (header.start, header.value),
-        None => match key_in(text, place.section.word()) {
-            Some(key) => (key.start, key.start),
-            None => (text, text),
-        },
+    if let Some(header) = found {
+        return (header.start, header.value);
+    }
+    match key_in(text, place.section.word()) {
+        Some(key) if place.section == Section::Init => (key.start, key.start),
+        Some(key) => (key.start, &[]),
+        None => (text, &[]),
     }
 }
 
@@ -198,16 +197,20 @@ fn subject_in<'t>(text: &'t [u8], subject: Subject, other: &str) -> &'t [u8]
     ensures { length result.now ≤ length text.now }
 {
     let (start, body) = place_in(text, subject.place);
+    let section = subject.place.section;
     let word = match subject.part {
         Part::Whole => return start,
-        Part::Step(place) => return step(text, body, subject.place.section, place),
+        Part::Step(place) => return step(body, section, place).unwrap_or(start),
         Part::Word(place, word) => {
-            return word_in(step(text, body, subject.place.section, place), word);
+            return match step(body, section, place) {
+                Some(step) => word_in(step, word),
+                None => start,
+            };
         }
         Part::Key(key) => key.word(),
         Part::OtherKey(_) => other,
     };
-    match (key_in(body, word), subject.place.section) {
+    match (key_in(body, word), section) {
         (Some(key), _) => key.start,
         (None, Section::Top) => top_header(text, word),
         (None, _) => start,

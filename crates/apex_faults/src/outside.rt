@@ -18,9 +18,10 @@ macro_rules! left_out {
 }
 
 /// The services that this profile leaves out (ARINC 653 Part 1).
-static LEFT_OUT: [LeftOut; 20] = left_out! {
+static LEFT_OUT: [LeftOut; 21] = left_out! {
     "LOCK_PREEMPTION" Some("ACQUIRE_MUTEX");
     "UNLOCK_PREEMPTION" Some("RELEASE_MUTEX");
+    "GET_MY_INDEX" Some("GET_MY_ID");
     "RESET_MUTEX" None;
     "GET_PROCESS_MUTEX_STATE" Some("GET_MUTEX_STATUS");
     "CREATE_SAMPLING_PORT" Some("CREATE_BLACKBOARD");

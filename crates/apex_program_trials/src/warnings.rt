@@ -98,7 +98,7 @@ discipline = "FIFO"
 /// Its warnings.
 const DOUBTS: [&str; 14] = [
     "process 1: its script is empty, so it stops at its first turn",
-    "process 2: no step starts it, so it stays dormant",
+    "process 2: no step outside its script starts it, so it stays dormant",
     "process 3: its time capacity is longer than its period, so its next release comes first",
     "process 4: it is periodic and loops without PERIODIC_WAIT, so only a start releases it",
     "process 5: the work of a job has no fewer units than its period or its time capacity has ticks",

@@ -1,5 +1,5 @@
 -- The calls of a table's steps.
-use Rattle.std.specs.Prelude.{ℕ, Bool, List, map, ◌||◌}
+use Rattle.std.specs.Prelude.{ℕ, ◌+◌, Bool, List, drop, map, take, ◌||◌}
 use Rattle.std.specs.List.{list_any}
 use Rattle.apex_warnings.specs.Terms.{Call}
 use Rattle.apex_machine.specs.table.Table.{ProcessConfig, Step, Table, process_config}
@@ -24,3 +24,10 @@ scripts table = map (λ (e : ProcessConfig). calls_of e.script) table.processes
 abbrev pub any_step : (Call → Bool) → Table → Bool
 any_step passes table =
     list_any passes (init_calls table) || list_any (list_any passes) (scripts table)
+
+-- a step of the init list passes, or one of a script before or after that of process p
+abbrev pub any_step_outside : ℕ → (Call → Bool) → Table → Bool
+any_step_outside p passes table =
+    list_any passes (init_calls table)
+    || list_any (list_any passes) (take p (scripts table))
+    || list_any (list_any passes) (drop (p + 1) (scripts table))

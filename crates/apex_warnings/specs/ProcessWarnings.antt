@@ -2,7 +2,7 @@
 use Rattle.std.specs.Prelude.{ℕ, Bool, length, ◌==◌, ◌&&◌, not, is_some}
 use Rattle.std.specs.List.{list_any}
 use Rattle.apex_warnings.specs.Acts.{does}
-use Rattle.apex_warnings.specs.Calls.{any_step, script}
+use Rattle.apex_warnings.specs.Calls.{any_step_outside, script}
 use Rattle.apex_warnings.specs.Jobs.{has_much_work, is_above}
 use Rattle.apex_warnings.specs.Terms.{ProcessWarning}
 use Rattle.apex_warnings.specs.declared.acts.Act.TheVariants as act
@@ -13,10 +13,10 @@ use Rattle.apex_machine.specs.table.Table.{Table, process_config}
 abbrev pub has_empty_script : Table → ℕ → Bool
 has_empty_script table p = length (script table p) == 0
 
--- no step of the init list or of a script starts it, so it stays dormant; the default init list
--- starts those whose key `start` is true
+-- no step of the init list or of another process's script starts it, so it stays dormant, and its
+-- own script never runs; the default init list starts those whose key `start` is true
 abbrev pub is_not_started : Table → ℕ → Bool
-is_not_started table p = not (any_step (does (act.Start p)) table)
+is_not_started table p = not (any_step_outside p (does (act.Start p)) table)
 
 -- its time capacity is longer than its period, so a job can miss a release before its deadline
 abbrev pub has_long_capacity : Table → ℕ → Bool

@@ -11,7 +11,7 @@ use Rattle.apex_warnings.specs.declared.warnings.Warning.TheVariants.{Process, S
 -- why a process is warned of
 abbrev pub process_reason : ProcessWarning → List ℕ
 process_reason EmptyScript = codes "its script is empty, so it stops at its first turn"
-process_reason NotStarted = codes "no step starts it, so it stays dormant"
+process_reason NotStarted = codes "no step outside its script starts it, so it stays dormant"
 process_reason CapacityAbovePeriod =
     codes "its time capacity is longer than its period, so its next release comes first"
 process_reason NoPeriodicWait =

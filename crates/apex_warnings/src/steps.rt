@@ -3,7 +3,7 @@ ghost use Rattle.std.specs.Prelude.{◌≡◌, ◌<◌, ◌≤◌, ◌++◌, len
 ghost use Rattle.std.specs.List.{list_any};
 ghost use Rattle.apex_types.specs.declared.limits.TheConstants.{MOST_INIT_STEPS, MOST_STEPS};
 ghost use Rattle.apex_warnings.specs.Acts.{does};
-ghost use Rattle.apex_warnings.specs.Calls.{any_step, calls_of, init_calls, script, scripts};
+ghost use Rattle.apex_warnings.specs.Calls.{any_step, any_step_outside, calls_of, init_calls, script, scripts};
 
 use crate::acts::Act;
 use apex_configs::{ProcessConfig, Table};
@@ -181,5 +181,16 @@ impl<'a> TableSteps<'a> {
         ensures { result ≡ any_step (does act.now) self.now }
     {
         act.is_among(&self.init) || one_has(&self.by_process, act)
+    }
+
+    /// A step of the init list, or of the script of another process, is such an act.
+    pub fn have_outside(&self, process: ProcessId, act: &Act) -> bool
+        requires { process < length self.now.processes }
+        ensures { result ≡ any_step_outside process (does act.now) self.now }
+    {
+        let place = process.place();
+        act.is_among(&self.init)
+            || one_has(&self.by_process[..place], act)
+            || one_has(&self.by_process[place + 1..], act)
     }
 }

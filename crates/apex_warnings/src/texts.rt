@@ -16,7 +16,9 @@ impl ProcessWarning {
     {
         match self {
             ProcessWarning::EmptyScript => "its script is empty, so it stops at its first turn",
-            ProcessWarning::NotStarted => "no step starts it, so it stays dormant",
+            ProcessWarning::NotStarted => {
+                "no step outside its script starts it, so it stays dormant"
+            }
             ProcessWarning::CapacityAbovePeriod => {
                 "its time capacity is longer than its period, so its next release comes first"
             }
