@@ -1,5 +1,6 @@
 pub mod Excerpts
 pub mod Axes
 pub mod Rows
+pub mod Looks
 pub mod Svg
 pub mod Laws

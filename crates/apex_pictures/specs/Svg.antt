@@ -1,6 +1,6 @@
 -- A picture as SVG. The places of rows and columns are the frame's; their contents are the
 -- columns'.
-use Rattle.std.specs.Prelude.{ℕ, ◌+◌, ◌-◌, Bool, false, true, List, [], ◌∷◌, ◌++◌, ◌==◌, ◌&&◌, ◌||◌, nat_le, nat_lt, length, Option, None, Some, codes, count_by, decimal, flat_map, slice_index_or, take, if◌then◌else◌}
+use Rattle.std.specs.Prelude.{ℕ, ◌+◌, ◌-◌, ◌≤◌, Bool, false, true, List, [], ◌∷◌, ◌++◌, ◌==◌, ◌&&◌, ◌||◌, nat_le, nat_lt, length, Option, None, Some, codes, count_by, decimal, flat_map, slice_index_or, take, if◌then◌else◌}
 use Rattle.apex_machine.specs.text.Texts.{id_text, process_name}
 use Rattle.apex_calls.specs.Lines.{asked_text, line_of, reply_text}
 use Rattle.apex_machine.specs.text.Listing.{texts_of}
@@ -13,6 +13,7 @@ use Rattle.apex_types.specs.declared.entries.Notice.TheVariants.{Woken, Released
 use Rattle.apex_moments.specs.Moments.{Shown, no_cell}
 use Rattle.apex_pictures.specs.Axes.{time_of}
 use Rattle.apex_pictures.specs.Excerpts.{first_number, is_unfolded, last_number}
+use Rattle.apex_pictures.specs.Looks.{end_text, meanings_text, style_text}
 use Rattle.apex_pictures.specs.Rows.{selection_of}
 use Rattle.apex_moments.specs.Terms.{Caller, Entry, Notice, Wait}
 use Rattle.apex_moments.specs.declared.moments.Cell.{Cell}
@@ -65,12 +66,22 @@ shows columns entry =
     && nat_le entry.number (last_number columns.drawn.items))
     && is_unfolded columns.fold entry
 
--- what comes before the columns
-unfoldable pub head_text : Frame → List ℕ
-head_text frame = texts (
+-- the frame has room for its columns within its width, and its key is below its rows
+pub record HasRoom (frame : Frame) : Type 0 where
+  pub columns : frame.left + frame.columns.behind ≤ frame.width
+  pub rows : frame.rows.top ≤ frame.bottom
+  pub key : frame.bottom ≤ frame.foot
+
+-- the tag with which the file begins: the size of the picture
+unfoldable pub opening_text : Frame → List ℕ
+opening_text frame = texts (
     codes "<svg xmlns='http://www.w3.org/2000/svg' width='" ∷ decimal frame.width
     ∷ codes "' height='" ∷ decimal (frame.foot + 24)
-    ∷ codes "' font-family='DejaVu Sans, sans-serif' font-size='11'>\n" ∷ frame.style.now ∷ [])
+    ∷ codes "' font-family='DejaVu Sans, sans-serif' font-size='11'>\n" ∷ [])
+
+-- what comes before the columns
+abbrev pub head_text : Frame → List ℕ
+head_text frame = opening_text frame ++ style_text
 
 -- the heading of a core
 unfoldable pub heading_text : Frame → ℕ → List ℕ
@@ -126,10 +137,10 @@ said_line table entry =
     asked_text table entry.call entry.reply ++ codes " -> " ++ reply_text table entry.reply
     ++ codes "\n"
 
--- a line, or its first `MOST_CALL` bytes and `…` if it is longer, as XML shows it
+-- a line, or its first `MOST_CALL` bytes and `…` if it has more before its line feed, as XML shows it
 abbrev pub cut_text : List ℕ → List ℕ
 cut_text line =
-    if nat_le (length line) MOST_CALL then xml_text line
+    if nat_le (length line) (MOST_CALL + 1) then xml_text line
     else xml_text (take MOST_CALL line) ++ codes "&#8230;"
 
 -- the call and the reply above a column
@@ -327,10 +338,14 @@ white_text frame = texts (
     codes "<g id='labels'>\n<rect width='" ∷ decimal frame.left
     ∷ codes "' height='100%' fill='#fff'/>\n" ∷ [])
 
+-- the tag of the group of the key
+unfoldable pub key_opening : Frame → List ℕ
+key_opening frame =
+    texts (codes "<g transform='translate(0," ∷ decimal frame.foot ∷ codes ")'>" ∷ [])
+
 -- the key
-unfoldable pub key_text : Frame → List ℕ
-key_text frame = texts (
-    codes "<g transform='translate(0," ∷ decimal frame.foot ∷ codes ")'>" ∷ frame.key.now ∷ [])
+abbrev pub key_text : Frame → List ℕ
+key_text frame = key_opening frame ++ meanings_text
 
 -- what a picture shows, of which more was asked for
 unfoldable pub excerpt_text : Excerpt → List ℕ
@@ -362,4 +377,4 @@ foot_text table frame =
     mark_part frame frame.mark ++ white_text frame ++ texts_of (heading_text frame) table.cores
     ++ texts_of (label_at table frame) (length table.processes)
     ++ key_text frame ++ note_text frame.columns.excerpt
-    ++ selection_part (selection_of frame.rows.chosen.items) ++ frame.end.now
+    ++ selection_part (selection_of frame.rows.chosen.items) ++ end_text

@@ -2,14 +2,15 @@
 ghost use Rattle.std.specs.Prelude.{◌≡◌, ◌++◌, length, OnOk};
 ghost use Rattle.apex_machine.specs.text.Listing.{texts_of};
 ghost use Rattle.apex_pictures.specs.Rows.{selection_of};
-ghost use Rattle.apex_pictures.specs.Svg.{excerpt_text, foot_text, heading_text, head_text, key_text, label_at, label_text, mark_part, mark_text, note_text, selection_part, selection_text, white_text};
+ghost use Rattle.apex_pictures.specs.Svg.{excerpt_text, foot_text, heading_text, head_text, key_opening, key_text, label_at, label_text, mark_part, mark_text, note_text, opening_text, selection_part, selection_text, white_text};
 
 use crate::excerpts::Excerpt;
 use crate::frames::Frame;
+use crate::looks::{put_end, put_meanings, put_style};
 use crate::marks::Mark;
 use crate::rows::Selection;
 use apex_configs::Table;
-use apex_moments::{Part, id_part, put, put_all};
+use apex_moments::{Part, id_part, put_all};
 use apex_names::process_name;
 use apex_types::{CoreId, ProcessId};
 use std::alloc::AllocError;
@@ -71,9 +72,9 @@ fn put_label_at(
     }
 }
 
-/// Puts what comes before the columns. Fails only for want of memory.
-pub fn put_head(text: &mut Vec<u8>, frame: &Frame) -> Result<(), AllocError>
-    ensures { OnOk result (text.new.items ≡ text.old.items ++ head_text frame.now) }
+/// Puts the tag with which the file begins: the size of the picture.
+fn put_opening(text: &mut Vec<u8>, frame: &Frame) -> Result<(), AllocError>
+    ensures { OnOk result (text.new.items ≡ text.old.items ++ opening_text frame.now) }
 {
     put_all(
         text,
@@ -83,9 +84,17 @@ pub fn put_head(text: &mut Vec<u8>, frame: &Frame) -> Result<(), AllocError>
             Part::Plain("' height='"),
             Part::Number(u64::from(frame.foot) + 24),
             Part::Plain("' font-family='DejaVu Sans, sans-serif' font-size='11'>\n"),
-            Part::Plain(frame.style),
         ],
     )
+}
+
+/// Puts what comes before the columns. Fails only for want of memory.
+#[tactic(auto, using(std::proofs::Common::append_assoc))]
+pub fn put_head(text: &mut Vec<u8>, frame: &Frame) -> Result<(), AllocError>
+    ensures { OnOk result (text.new.items ≡ text.old.items ++ head_text frame.now) }
+{
+    put_opening(text, frame)?;
+    put_style(text)
 }
 
 fn put_headings(text: &mut Vec<u8>, table: &Table, frame: &Frame) -> Result<(), AllocError>
@@ -158,9 +167,9 @@ fn put_white(text: &mut Vec<u8>, frame: &Frame) -> Result<(), AllocError>
     )
 }
 
-/// Puts the key.
-fn put_key(text: &mut Vec<u8>, frame: &Frame) -> Result<(), AllocError>
-    ensures { OnOk result (text.new.items ≡ text.old.items ++ key_text frame.now) }
+/// Puts the tag of the group of the key.
+fn put_key_opening(text: &mut Vec<u8>, frame: &Frame) -> Result<(), AllocError>
+    ensures { OnOk result (text.new.items ≡ text.old.items ++ key_opening frame.now) }
 {
     put_all(
         text,
@@ -168,9 +177,17 @@ fn put_key(text: &mut Vec<u8>, frame: &Frame) -> Result<(), AllocError>
             Part::Plain("<g transform='translate(0,"),
             Part::Number(u64::from(frame.foot)),
             Part::Plain(")'>"),
-            Part::Plain(frame.key),
         ],
     )
+}
+
+/// Puts the key.
+#[tactic(auto, using(std::proofs::Common::append_assoc))]
+fn put_key(text: &mut Vec<u8>, frame: &Frame) -> Result<(), AllocError>
+    ensures { OnOk result (text.new.items ≡ text.old.items ++ key_text frame.now) }
+{
+    put_key_opening(text, frame)?;
+    put_meanings(text)
 }
 
 /// Puts what a picture shows, of which more was asked for.
@@ -241,5 +258,5 @@ pub fn put_foot(text: &mut Vec<u8>, table: &Table, frame: &Frame) -> Result<(), 
     put_key(text, frame)?;
     put_note(text, &frame.columns.excerpt)?;
     put_selection_part(text, frame)?;
-    put(text, frame.end)
+    put_end(text)
 }

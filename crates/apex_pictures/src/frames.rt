@@ -2,7 +2,7 @@
 ghost use Rattle.std.specs.Prelude.{◌≡◌, ◌<◌, ◌≤◌, ◌^◌, IfOk, length, option_map, None, Some};
 ghost use Rattle.apex_pictures.specs.Axes.{HasColumns};
 ghost use Rattle.apex_pictures.specs.Rows.{HasRows};
-ghost use Rattle.apex_pictures.specs.Svg.{behind, column_place, column_width, has_row, heading_of, row_of};
+ghost use Rattle.apex_pictures.specs.Svg.{HasRoom, behind, column_place, column_width, has_row, heading_of, row_of};
 
 use crate::columns::Columns;
 use crate::excerpts::{Extent, Timed};
@@ -29,18 +29,6 @@ const RISE: u32 = 6;
 
 const ADVANCE: u32 = 4;
 
-/// The look of the marks, and the white behind them.
-const STYLE: &str =
-    "<style>text{fill:#222}.core{font-weight:bold;fill:#555}.now{fill:#333}.number{fill:#555;font-size:10px;text-anchor:middle}.time{stroke:#999}.RUNNING{fill:#2f7d32}.READY{fill:#8fce92}.WAITING{fill:#dfe3e6}.DORMANT{fill:#fff;stroke:#ddd}.owns{fill:#c62828}.ring{fill:#fff;stroke:#111;stroke-width:1.5}path{stroke:#fff}line{stroke-width:1.5;stroke-dasharray:3,2}line.time{stroke-width:1;stroke-dasharray:none}.woken{fill:#1e88e5}line.woken{stroke:#1e88e5}.released{fill:#8e24aa}line.released{stroke:#8e24aa}path.missed{fill:none;stroke:#e53935;stroke-width:2}line.missed{stroke:#e53935}.departs{fill:#c62828}line.departs{stroke:#c62828;stroke-width:2;stroke-dasharray:none}</style>\n<rect width='100%' height='100%' fill='#fff'/>\n";
-
-/// The meaning of each mark.
-const KEY: &str =
-    "<rect class='RUNNING' x='20' y='0' width='16' height='10'/><text x='40' y='9'>running</text><rect class='READY' x='105' y='0' width='16' height='10'/><text x='125' y='9'>ready</text><rect class='WAITING' x='180' y='0' width='16' height='10'/><text x='200' y='9'>waiting</text><rect class='DORMANT' x='265' y='0' width='16' height='10'/><text x='285' y='9'>dormant</text><rect class='owns' x='355' y='4' width='16' height='3'/><text x='375' y='9'>owns a mutex</text><circle class='ring' cx='475' cy='5' r='4'/><text x='485' y='9'>caller</text><path class='woken' d='M540,0 h10 l-5,9 z'/><text x='554' y='9'>woken</text><path class='released' d='M610,0 h10 l-5,9 z'/><text x='624' y='9'>released</text><path class='missed' d='M691,-1 h18 v12 h-18 z'/><text x='714' y='9'>missed</text>";
-
-/// The end of the file, behind the key: a script that keeps the labels in sight.
-const END: &str =
-    "</g>\n</g>\n<script>\naddEventListener('scroll',()=>document.getElementById('labels').setAttribute('transform','translate('+scrollX+',0)'))\n</script>\n</svg>\n";
-
 /// The entries of a history that are drawn as SVG, and the places of their columns and of the rows.
 #[derive(Drop)]
 pub struct Frame {
@@ -57,12 +45,6 @@ pub struct Frame {
     pub(crate) foot: u32,
     /// The place at which the first column begins.
     pub(crate) left: u32,
-    /// The look of the marks.
-    pub(crate) style: &'static str,
-    /// The meaning of each mark.
-    pub(crate) key: &'static str,
-    /// The end of the file.
-    pub(crate) end: &'static str,
 }
 
 /// The number of letters of the longest name of a process.
@@ -126,6 +108,7 @@ impl Frame {
         ensures rows { IfOk result (λ frame. HasRows kernel.now.table
             (option_map (λ list. list.now) only.entry) frame.rows) }
         ensures unmarked { IfOk result (λ frame. frame.mark ≡ None) }
+        ensures room { IfOk result HasRoom }
     {
         let table = kernel.table();
         let columns = Columns::new(alloc, kernel, axis, extent)?;
@@ -143,9 +126,6 @@ impl Frame {
             bottom,
             foot: bottom + 40 + RISE * instant_letters(kernel.now()),
             left,
-            style: STYLE,
-            key: KEY,
-            end: END,
         })
     }
 
@@ -154,6 +134,7 @@ impl Frame {
         ensures columns { result.columns ≡ self.columns }
         ensures rows { result.rows ≡ self.rows }
         ensures mark { result.mark ≡ Some mark }
+        ensures room { HasRoom self → HasRoom result }
     {
         let behind = self.left.saturating_add(self.columns.behind);
         let width = behind.saturating_add(LETTER * mark.letters() + 30);

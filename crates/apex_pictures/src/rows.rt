@@ -200,7 +200,8 @@ impl Rows {
     /// The rows of these processes of a table, or of all, below `top`.
     pub(crate) fn new(table: &Table, only: Option<&[ProcessId]>, top: u32) -> Rows
         requires { top ≤ 30000 }
-        ensures { HasRows table.now (option_map (λ list. list.now) only.entry) result }
+        ensures has { HasRows table.now (option_map (λ list. list.now) only.entry) result }
+        ensures top { result.top ≡ top }
     {
         let cores = cores_of(table, only);
         Rows {

@@ -104,11 +104,11 @@ fn put_front(text: &mut Vec<u8>, line: &[u8]) -> Result<(), AllocError>
     put(text, "&#8230;")
 }
 
-/// Puts a line, or its first [`MOST_CALL`] bytes and `…` if it is longer.
+/// Puts a line, or its first [`MOST_CALL`] bytes and `…` if it has more before its line feed.
 fn put_cut(text: &mut Vec<u8>, line: &[u8]) -> Result<(), AllocError>
     ensures { OnOk result (text.new.items ≡ text.old.items ++ cut_text line.now) }
 {
-    if line.len() <= MOST_CALL {
+    if line.len() <= MOST_CALL + 1 {
         put_xml(text, line)
     } else {
         put_front(text, line)

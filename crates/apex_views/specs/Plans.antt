@@ -27,6 +27,7 @@ use Rattle.apex_pictures.specs.Axes.{HasColumns}
 use Rattle.apex_pictures.specs.Excerpts.{columns_of, excerpt_of}
 use Rattle.apex_drawing.specs.Pictures.{picture_text}
 use Rattle.apex_pictures.specs.Rows.{HasRows}
+use Rattle.apex_pictures.specs.Svg.{HasRoom}
 use Rattle.apex_scales.specs.declared.Axis.{Axis}
 use Rattle.apex_pictures.specs.declared.Excerpt.{Excerpt}
 use Rattle.apex_pictures.specs.declared.Extent.{Extent}
@@ -58,12 +59,15 @@ pub record IsListOf (limit : ℕ) (all events : List Event) (is_cut : Bool) : Ty
   pub whole : is_cut ≡ false → (rest ≡ []) × (length events ≤ limit)
   pub cut : is_cut ≡ true → (length events ≡ limit) × (0 < length rest)
 
--- A frame is for an extent of a history: it has the columns of its entries, `MOST_COLUMNS` of them at
--- the most, and says so if these are not all. The columns stand along the axis. It marks the departure
--- behind the history, if there is one and the extent ends with the last entry.
+-- A frame is for an extent of a history: it has the columns of its entries, one at least and
+-- `MOST_COLUMNS` at most, and says so if these are not all. The columns are along the axis, and the frame
+-- has room for them. It marks the departure after the history, if there is one and the extent ends with
+-- the last entry.
 pub record IsFrameFor (axis : Axis) (extent : Extent) (history : List Entry)
     (departure : Option Departure) (frame : Frame) : Type 0 where
   pub columns : HasColumns axis extent history frame.columns
+  pub some : 0 < length frame.columns.drawn.items
+  pub room : HasRoom frame
   pub mark : Marks (departure_behind extent.last (length history) departure) frame.mark
 
 -- a frame is that of a chart: it shows the entries from the first one of the window to the last, along

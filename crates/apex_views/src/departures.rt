@@ -3,6 +3,7 @@ ghost use Rattle.std.specs.Prelude.{◌≡◌, ◌-◌, All, IfOk, None, option_
 ghost use Rattle.apex_machine.specs.Events.{IsWithin};
 ghost use Rattle.apex_machine.specs.Machine.{events_of, opening, run};
 ghost use Rattle.apex_views.specs.Departures.{Marks, departure_behind, departure_said, extent_of};
+ghost use Rattle.apex_pictures.specs.Svg.{HasRoom};
 
 use apex_console::booted;
 use apex_departures::ShownLines;
@@ -122,6 +123,7 @@ pub(crate) fn marked(
     requires { frame.mark ≡ None }
     ensures columns { IfOk result (λ found. found.columns ≡ frame.columns) }
     ensures rows { IfOk result (λ found. found.rows ≡ frame.rows) }
+    ensures room { HasRoom frame → IfOk result HasRoom }
     ensures mark { IfOk result (λ found. Marks (departure_behind extent.last entries
         (option_map departure_said departure.now)) found.mark) }
 {

@@ -1,6 +1,6 @@
 -- The frame is that of the range, with the mark of the departure.
-use Rattle.std.proofs.Common.{◌≡◌, ◌∙◌, ap, length, subst, sym}
-use Rattle.std.proofs.lemmas.Bool.{eqb-true}
+use Rattle.std.proofs.Common.{◌≡◌, ◌∙◌, ap, arith, inl, inr, length, subst, sym}
+use Rattle.std.proofs.lemmas.Bool.{cases_lt, eqb-false, eqb-true}
 use Rattle.std.specs.Prelude.{option_map}
 use Rattle.apex_pictures.specs.Axes.{HasColumns}
 use Rattle.apex_pictures.specs.Excerpts.{columns_of, drawn}
@@ -29,6 +29,11 @@ returns g c =
       shows = record {
         columns = rw marked.columns (subst (λ (e : Extent). HasColumns chart.axis e history c.in_ok-frame.frame.columns) extent_is
             made.columns);
+        some = rw marked.columns (elim (cases_lt 0 (length c.in_ok-frame.frame.columns.drawn.items)) [
+          | inl some ↦ some
+          | inr none ↦ absurd (eqb-false _ _ (sym c.is_empty.ensures ∙ c.if-is_empty.false) (ap length c.as_slice.ensures.value ∙ omega (arith, none)))
+        ]);
+        room = marked.room made.room;
         mark = subst (λ (e : Extent). Marks (departure_behind e.last many departure) c.in_ok-frame-2.frame.mark) extent_is
             (rw (c.len-entries.ensures.value, c.entries.ensures) at marked.mark);
       };

@@ -1,7 +1,0 @@
--- The parts are those of the text.
-use Rattle.apex_pictures.specs.Svg.{head_text}
-use Rattle.apex_pictures.proofs.borders.put_head.Goals as goal
-
-pub returns : goal.returns
-unfolding head_text
-returns c = rw (c.from.ensures, c.from-2.ensures) at c.put_all.ensures
