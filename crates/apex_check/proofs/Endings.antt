@@ -12,10 +12,14 @@ use Rattle.apex_check.specs.declared.verdicts.CheckFault.TheVariants.{Memory, Re
 use Rattle.apex_incoming.specs.Ahead.{IsAhead}
 use Rattle.apex_check.specs.Checks.{Checks, no_memory, refused, unread, unwritten, written}
 use Rattle.apex_check.specs.Faults.{CountsRead, IsFaultOf}
+use Rattle.apex_check.specs.Leading.{CountsLeadingRead, IsLeadingFaultOf, without_separator, without_table}
+use Rattle.apex_check.specs.TableFaults.{fault_of_leading}
+use Rattle.apex_check.specs.declared.tables.LeadingFault.{LeadingFault}
+use Rattle.apex_check.specs.declared.tables.LeadingFault.TheVariants as leading
 use Rattle.apex_check.specs.Steps.{IsLineFaultOf}
 use Rattle.apex_check.specs.Texts.{IsTableText, separator}
 use Rattle.apex_incoming.specs.Lines.{ended}
-use Rattle.apex_check.specs.Verdicts.{HasFollowed, JudgesLines, at_line, verdict_text}
+use Rattle.apex_check.specs.Verdicts.{HasFollowed, JudgesLines, at_line, no_separator, no_table, verdict_text}
 use Rattle.apex_incoming.proofs.Coming.{ahead_more}
 
 -- nothing was read ahead
@@ -23,6 +27,20 @@ pub nothing_ahead : (pending : List ℕ) (left : Option (List ℕ)) → length p
 nothing_ahead [] None none = refl
 nothing_ahead [] (Some xs) none = refl
 nothing_ahead (x ∷ xs) left none = cc
+
+-- a text that lacks its table is at fault
+pub lacks_table : (known : Option (List ℕ)) (fault : LeadingFault) → IsLeadingFaultOf known fault → IsFaultOf known (fault_of_leading fault)
+lacks_table known leading.Memory found = tt
+lacks_table known leading.Read found = tt
+lacks_table known leading.NoSeparator (text, ahead, without_separator none) = (text, ahead, no_separator none)
+lacks_table known (leading.Table fault) (text, ahead, without_table front behind parted reads other) =
+    (text, ahead, no_table front behind parted reads other)
+
+pub counts_leading : (fault : LeadingFault) (old new : ℕ) → CountsLeadingRead fault old new → CountsRead (fault_of_leading fault) old new
+counts_leading leading.Memory old new same = same
+counts_leading leading.Read old new more = more
+counts_leading leading.NoSeparator old new same = same
+counts_leading (leading.Table fault) old new same = same
 
 -- a fault before the lines
 pub ends_early : {before after : Ports} → (fault : CheckFault) → IsFaultOf before.left fault

@@ -11,11 +11,10 @@ use Rattle.apex_words.specs.declared.TableFault.{TableFault}
 use Rattle.apex_words.specs.declared.TableFault.TheVariants as table_fault
 use Rattle.apex_incoming.specs.declared.pending.Next.{Next}
 use Rattle.apex_incoming.specs.declared.pending.Next.TheVariants.{Rest, End}
-use Rattle.apex_check.specs.declared.verdicts.CheckFault.TheVariants.{Table}
+use Rattle.apex_check.specs.declared.tables.LeadingFault.TheVariants.{Table}
 use Rattle.apex_incoming.specs.Ahead.{Comes, IsAhead, IsFirstLine}
-use Rattle.apex_check.specs.Faults.{CountsRead, IsFaultOf}
+use Rattle.apex_check.specs.Leading.{CountsLeadingRead, IsLeadingFaultOf, LacksTable}
 use Rattle.apex_check.specs.TableFaults.{fault_of_table}
-use Rattle.apex_check.specs.Verdicts.{IsAtFault}
 use Rattle.apex_check.specs.Texts.{HasNoSeparator, IsOfTable, IsTableText, separator}
 use Rattle.apex_incoming.specs.Lines.{IsOneLine, ended, text_of}
 use Rattle.apex_incoming.proofs.FirstLines.{one_line_append}
@@ -23,9 +22,6 @@ use Rattle.apex_incoming.proofs.FirstLines.{one_line_append}
 -- one line more
 pub text_more : (lines : List (List ℕ)) (line : List ℕ) → text_of (lines ++ line ∷ []) ≡ text_of lines ++ ended line
 text_more lines line = flat_map-append ended lines (line ∷ []) ∙ ap (λ l. text_of lines ++ l) (append-nil (ended line))
-
-pub table_none : IsTableText []
-table_none = record { lines = []; whole = refl; others = tt }
 
 pub table_more : (front line : List ℕ) → IsTableText front → IsOneLine line → (ended line ≢ ended separator) → IsTableText (front ++ ended line)
 table_more front line text one other = record {
@@ -46,13 +42,6 @@ module _ (items piece : List ℕ) (start : ℕ) (within : start ≤ length items
 
   pub part_grown : drop start (items ++ piece) ≡ drop start items ++ piece
   part_grown = drop-append-le start items piece within
-
--- a piece of a line
-pub part_more : (items pending : List ℕ) (start : ℕ) → start ≤ length items → IsOneLine (drop start items) → IsOneLine pending
-    → IsOneLine (drop start (items ++ take (length pending) pending))
-part_more items pending start within part one =
-    rw (take_all (length pending) pending (omega arith), part_grown items pending start within)
-    (one_line_append (drop start items) pending part one)
 
 -- the line that ends in the first line of the pending bytes
 line_ended : (items pending : List ℕ) (start end : ℕ) → start ≤ length items → IsFirstLine end pending
@@ -110,11 +99,11 @@ last_piece next pending left (inr e) comes =
 
 -- a fault of the table, as the text's
 pub of_table : (known : Option (List ℕ)) (text : List ℕ) (fault : TableFault) → Fails fault (table_of text)
-    → ((found : TableFault) → (found ≢ table_fault.Memory) → table_of text ≡ Err found → (x : List ℕ) × IsAhead x known × IsAtFault x (Table found))
-    → IsFaultOf known (fault_of_table fault)
+    → ((found : TableFault) → (found ≢ table_fault.Memory) → table_of text ≡ Err found → (x : List ℕ) × IsAhead x known × LacksTable x (Table found))
+    → IsLeadingFaultOf known (fault_of_table fault)
 of_table known text table_fault.Memory fails found = tt
 of_table known text fault fails found = found fault (λ e. cc) fails
 
-pub counts_table : (fault : TableFault) (old new : ℕ) → new ≡ old → CountsRead (fault_of_table fault) old new
+pub counts_table : (fault : TableFault) (old new : ℕ) → new ≡ old → CountsLeadingRead (fault_of_table fault) old new
 counts_table table_fault.Memory old new same = same
 counts_table fault old new same = same

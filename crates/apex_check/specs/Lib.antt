@@ -7,3 +7,4 @@ pub mod Steps
 pub mod Checks
 pub mod Legal
 pub mod TableFaults
+pub mod Leading

@@ -8,5 +8,5 @@ mod tables;
 mod verdicts;
 
 pub use checking::{Followed, check, follow};
-pub use tables::leading_table;
+pub use tables::{LeadingFault, leading_table};
 pub use verdicts::{CheckFault, Verdict, verdict_text};

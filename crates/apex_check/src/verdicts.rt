@@ -2,10 +2,11 @@
 ghost use Rattle.std.specs.Prelude.{◌≡◌, Some};
 ghost use Rattle.apex_check.specs.Faults.{fault_text};
 ghost use Rattle.apex_check.specs.Steps.{IsTellable};
-ghost use Rattle.apex_check.specs.TableFaults.{fault_of_table};
+ghost use Rattle.apex_check.specs.TableFaults.{fault_of_leading};
 ghost use Rattle.apex_check.specs.Verdicts.{verdict_text};
 ghost use Rattle.apex_check.specs.declared.verdicts.CheckFault.TheVariants.{Memory};
 
+use crate::tables::LeadingFault;
 use apex_configs::Table;
 use apex_history::{Lines, NextSteps, put_line};
 use apex_texts::{put, put_number};
@@ -81,13 +82,15 @@ impl From<AllocError> for CheckFault {
     }
 }
 
-impl From<TableFault> for CheckFault {
-    ghost from_gives = { λ error fault. fault ≡ fault_of_table error };
+impl From<LeadingFault> for CheckFault {
+    ghost from_gives = { λ error fault. fault ≡ fault_of_leading error };
 
-    fn from(error: TableFault) -> CheckFault {
+    fn from(error: LeadingFault) -> CheckFault {
         match error {
-            TableFault::Memory => CheckFault::Memory,
-            fault => CheckFault::Table(fault),
+            LeadingFault::Memory => CheckFault::Memory,
+            LeadingFault::Table(fault) => CheckFault::Table(fault),
+            LeadingFault::NoSeparator => CheckFault::NoSeparator,
+            LeadingFault::Read => CheckFault::Read,
         }
     }
 }

@@ -5,7 +5,7 @@ ghost use Rattle.apex_showings.specs.Showings.{source_said};
 ghost use Rattle.apex_views.specs.Shows.{Gives};
 ghost use Rattle.apex_lab_cli.specs.Listed.{outcome_of};
 
-use apex_console::{CliFault, Run};
+use apex_console::Run;
 use apex_history::{Counted, Source};
 use apex_showings::{Listing, RunSource, Showing, View};
 use apex_views::{Departure, Given, GivenRun, ShowFault, given_by};
@@ -19,6 +19,7 @@ pub(crate) struct Listed {
 }
 
 /// The run that the source gives, and the departure behind it.
+#[tactic(auto, using(crate::proofs::Listings::is_listing))]
 pub(crate) fn listed_by<R: Source>(
     alloc: Global,
     source: RunSource,
@@ -36,9 +37,9 @@ pub(crate) fn listed_by<R: Source>(
     let Given { made, departure } = given?;
     match made {
         GivenRun::Listing(_, run) => Ok(Listed { run, departure }),
-        // No picture is asked for.
-        GivenRun::Picture(_) => Err(ShowFault::Common(CliFault::Memory)),
-        GivenRun::Empty(..) => Err(ShowFault::Common(CliFault::Memory)),
-        GivenRun::Lacking(..) => Err(ShowFault::Common(CliFault::Memory)),
+        // A listing is asked for.
+        GivenRun::Picture(_) => unreachable!(),
+        GivenRun::Empty(..) => unreachable!(),
+        GivenRun::Lacking(..) => unreachable!(),
     }
 }

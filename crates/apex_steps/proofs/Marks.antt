@@ -11,7 +11,7 @@ use Rattle.apex_laws.proofs.Runs.{accept-full, accept-room, run-append}
 use Rattle.apex_console.proofs.ItemRuns.{length-run}
 use Rattle.apex_dispatch.specs.Kernel.{KernelState, kernel_in}
 use Rattle.apex_steps.specs.Kept.{AreKept, is_kept_as, mark_kept, session_kept}
-use Rattle.apex_steps.specs.Sessions.{Mark, after_events, gone_back, in_state_of, is_named, marked, marks_from}
+use Rattle.apex_steps.specs.Sessions.{Mark, after_events, gone_back, in_state_of, is_named, marks_from}
 use Rattle.apex_steps.specs.declared.sessions.Mark.{Mark as MarkKept}
 
 -- a history grew by these entries
@@ -89,12 +89,6 @@ kept_drop n zero marks kept = kept
 kept_drop n (suc i) [] kept = tt
 kept_drop n (suc i) (mark ∷ older) kept = kept_drop n i older (kept_longer mark.entries n older kept.0 kept.1)
 
--- the state after all entries is the present one
-pub mark_now : (table : Table) (machine : Machine) → replay table machine.history ≡ machine
-    → replay table (take (length machine.history) machine.history) ≡ machine
-mark_now table machine again =
-    ap (λ (l : List Entry). replay table l) (take_all (length machine.history) machine.history (omega arith)) ∙ again
-
 -- ---- the session that a kernel and its marks are
 
 grows_length : (old new : List Entry) → Grows old new → length old ≤ length new
@@ -112,14 +106,6 @@ module _ {S : Type 0} (old new : KernelState S) (marks : List MarkKept) (events 
   pub session_grown : session_kept new.table new.machine marks ≡ after_events (session_kept old.table old.machine marks) events
   session_grown = rw done (ap (λ ms. record { table = old.table; machine = run old.table old.machine events; marks = ms })
       (marks_stay old.table old.machine.history _ marks (length old.machine.history) grows (omega arith) kept))
-
--- with one mark more
-pub session_marked : (table : Table) (machine : Machine) (marks : List MarkKept) (mark : MarkKept) (name : List ℕ) → mark.name.items ≡ name
-    → mark.entries ≡ length machine.history → replay table machine.history ≡ machine
-    → session_kept table machine (mark ∷ marks) ≡ marked name (session_kept table machine marks)
-session_marked table machine marks mark name named many again =
-    let state : replay table (take mark.entries machine.history) ≡ machine = rw many (mark_now table machine again) in
-    rw (named, state) refl
 
 -- back at a mark
 pub session_back : (name : List ℕ) (table : Table) (machine new : Machine) (mark : MarkKept) (older marks : List MarkKept) (i : ℕ)

@@ -5,10 +5,10 @@ use Rattle.apex_json.specs.declared.Form.{Form}
 use Rattle.apex_machine.specs.table.Table.{Table}
 use Rattle.apex_table.specs.Reading.{table_of}
 use Rattle.apex_history.specs.Ports.{IsLeft, Ports, ports}
-use Rattle.apex_check.specs.declared.CheckFault.{CheckFault}
-use Rattle.apex_check.specs.declared.CheckFault.TheVariants as checking
+use Rattle.apex_check.specs.declared.LeadingFault.{LeadingFault}
+use Rattle.apex_check.specs.declared.LeadingFault.TheVariants as leading
 use Rattle.apex_incoming.specs.Ahead.{IsAhead}
-use Rattle.apex_check.specs.Faults.{CountsRead as CountsLeading, IsFaultOf}
+use Rattle.apex_check.specs.Leading.{CountsLeadingRead, IsLeadingFaultOf}
 use Rattle.apex_check.specs.Texts.{BeginsWithTable, IsTableText, separator}
 use Rattle.apex_incoming.specs.Lines.{ended}
 use Rattle.apex_incoming.proofs.Coming.{ahead_more}
@@ -19,11 +19,11 @@ use Rattle.apex_steps.specs.declared.faults.StepFault.{StepFault}
 use Rattle.apex_steps.specs.declared.faults.StepFault.TheVariants.{Memory, NoSeparator, Read, Write, Table as BadTable}
 
 -- before the first command
-pub ends_early : {form : Form} → {before after : Ports} → (fault : CheckFault) → IsFaultOf before.left fault
-    → CountsLeading fault before.failed_reads after.failed_reads → after.failed_writes ≡ before.failed_writes
+pub ends_early : {form : Form} → {before after : Ports} → (fault : LeadingFault) → IsLeadingFaultOf before.left fault
+    → CountsLeadingRead fault before.failed_reads after.failed_reads → after.failed_writes ≡ before.failed_writes
     → Keeps before.held after.held → Serves form before (Err (fault_of_leading fault)) after
-ends_early checking.Memory found counts same held = no_memory held (counts, same)
-ends_early checking.Read found counts same held = unread held (counts, same)
+ends_early leading.Memory found counts same held = no_memory held (counts, same)
+ends_early leading.Read found counts same held = unread held (counts, same)
 ends_early fault (text, ahead, at) counts same held = refused text ahead at held (counts, same)
 
 -- the bytes that are left count for nothing

@@ -5,9 +5,9 @@ use Rattle.apex_json.specs.declared.Form.{Form}
 use Rattle.apex_machine.specs.table.Table.{Table}
 use Rattle.apex_history.specs.Counted.{AppendsBeginning}
 use Rattle.apex_history.specs.Ports.{Ports, NoneFails, AReadFails, AWriteFails, IsLeft}
+use Rattle.apex_check.specs.Leading.{LacksTable}
 use Rattle.apex_check.specs.Texts.{BeginsWithTable}
-use Rattle.apex_check.specs.Verdicts.{IsAtFault}
-use Rattle.apex_check.specs.declared.CheckFault.{CheckFault}
+use Rattle.apex_check.specs.declared.LeadingFault.{LeadingFault}
 use Rattle.apex_steps.specs.Conversations.{said}
 use Rattle.apex_steps.specs.Faults.{fault_of_leading}
 use Rattle.apex_steps.specs.Sessions.{Session, opening_session}
@@ -41,8 +41,8 @@ pub data Serves (form : Form) (before : Ports) : Result (Unit {0}) StepFault →
   unread : {after : Ports} → Keeps before.held after.held → AReadFails before after
       → Serves form before (Err Read) after
   -- the text has no table or no separator: nothing was written
-  refused : (text : List ℕ) → {fault : CheckFault} {after : Ports} → IsLeft text before
-      → IsAtFault text fault → Keeps before.held after.held → NoneFails before after
+  refused : (text : List ℕ) → {fault : LeadingFault} {after : Ports} → IsLeft text before
+      → LacksTable text fault → Keeps before.held after.held → NoneFails before after
       → Serves form before (Err (fault_of_leading fault)) after
   -- all lines up to the end were answered
   answered : (text behind : List ℕ) (table : Table) → {after : Ports} → IsLeft text before

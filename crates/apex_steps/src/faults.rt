@@ -3,7 +3,7 @@ ghost use Rattle.std.specs.Prelude.{◌≡◌};
 ghost use Rattle.apex_steps.specs.Faults.{fault_of_leading};
 ghost use Rattle.apex_steps.specs.declared.faults.StepFault.TheVariants.{Memory, Write};
 
-use apex_check::CheckFault;
+use apex_check::LeadingFault;
 use apex_words::TableFault;
 use std::alloc::AllocError;
 use std::io;
@@ -37,15 +37,15 @@ impl From<AllocError> for StepFault {
     }
 }
 
-impl From<CheckFault> for StepFault {
+impl From<LeadingFault> for StepFault {
     ghost from_gives = { λ error fault. fault ≡ fault_of_leading error };
 
-    fn from(error: CheckFault) -> StepFault {
+    fn from(error: LeadingFault) -> StepFault {
         match error {
-            CheckFault::Table(fault) => StepFault::Table(fault),
-            CheckFault::NoSeparator => StepFault::NoSeparator,
-            CheckFault::Read => StepFault::Read,
-            _ => StepFault::Memory,
+            LeadingFault::Memory => StepFault::Memory,
+            LeadingFault::Table(fault) => StepFault::Table(fault),
+            LeadingFault::NoSeparator => StepFault::NoSeparator,
+            LeadingFault::Read => StepFault::Read,
         }
     }
 }

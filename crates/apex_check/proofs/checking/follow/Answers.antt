@@ -3,14 +3,19 @@ use Rattle.std.specs.Io.KnownBytes.{prepend_known}
 use Rattle.std.proofs.lemmas.Result.{err_from_is_err_and}
 use Rattle.apex_dispatch.specs.Kernel.{KernelState}
 use Rattle.apex_history.specs.Counted.{inner_of}
-use Rattle.apex_check.proofs.Endings.{fault_ahead, followed, nothing_ahead}
+use Rattle.apex_check.proofs.Endings.{counts_leading, fault_ahead, followed, lacks_table, nothing_ahead}
 use Rattle.apex_check.proofs.checking.follow.Goals as goal
 
 pub returns-in_err-table-clause-err : goal.returns-in_err-table-clause-err
 returns-in_err-table-clause-err g c =
     let none = nothing_ahead c.new-pending.result (g.R.Source.remaining (inner_of c.args.reader.now)) c.new-pending.ensures in
     let p = err_from_is_err_and c.from_residual.result c.from_residual.ensures.1 in
-    rw (p.1, p.2) (rw none at c.in_err-table.ensures.err)
+    rw (p.1, p.2) (lacks_table (g.R.Source.remaining (inner_of c.args.reader.now)) c.in_err-table.field-0.0 (rw none at c.in_err-table.ensures.err))
+
+pub returns-in_err-table-clause-counted : goal.returns-in_err-table-clause-counted
+returns-in_err-table-clause-counted g c =
+    let p = err_from_is_err_and c.from_residual.result c.from_residual.ensures.1 in
+    rw (p.1, p.2) (counts_leading c.in_err-table.field-0.0 _ _ c.in_err-table.ensures.counted)
 
 pub boot-requires : goal.boot-requires
 boot-requires g c = c.requires.opening c.in_ok-table.table (Ok c.in_ok-store.store) (_, c.in_ok-store.ensures, refl)

@@ -3,10 +3,10 @@ use Rattle.std.specs.Io.KnownBytes.{prepend_known}
 use Rattle.std.proofs.KnownBytes.{Keeps-refl}
 use Rattle.apex_history.specs.Counted.{inner_of}
 use Rattle.apex_table.specs.Reading.{table_of}
-use Rattle.apex_check.specs.declared.verdicts.CheckFault.TheVariants.{Table}
+use Rattle.apex_check.specs.declared.tables.LeadingFault.TheVariants.{Table}
 use Rattle.apex_check.specs.Texts.{separator}
 use Rattle.apex_incoming.specs.Lines.{ended}
-use Rattle.apex_check.specs.Verdicts.{IsAtFault, no_table}
+use Rattle.apex_check.specs.Leading.{LacksTable, without_table}
 use Rattle.apex_words.specs.Outcome.{Fails}
 use Rattle.apex_incoming.proofs.Coming.{or_nothing, text_ahead}
 use Rattle.apex_check.proofs.Separated.{counts_table, of_table}
@@ -22,8 +22,8 @@ returns g c =
     record {
       ok = tt;
       err = rw c.from.ensures (of_table old text c.in-Err.fault fails
-          (λ fault other e. text_ahead (λ (t : List ℕ). IsAtFault t (Table fault)) old (prepend_known pending left) left (text ++ ended separator) pending
+          (λ fault other e. text_ahead (λ (t : List ℕ). LacksTable t (Table fault)) old (prepend_known pending left) left (text ++ ended separator) pending
           c.in_ok-text.ensures.taken (Keeps-refl _)
-          (no_table text (pending ++ or_nothing left) (c.in_ok-text.ensures.lines, refl) e other)));
+          (without_table text (pending ++ or_nothing left) (c.in_ok-text.ensures.lines, refl) e other)));
       counted = rw c.from.ensures (counts_table c.in-Err.fault _ _ c.in_ok-text.ensures.counted);
     }

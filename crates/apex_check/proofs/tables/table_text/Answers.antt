@@ -3,10 +3,10 @@ use Rattle.std.specs.Prelude.{◌≢◌}
 use Rattle.std.specs.Io.KnownBytes.{Consumes, prepend_known}
 use Rattle.apex_history.specs.Counted.{inner_of}
 use Rattle.apex_incoming.specs.Ahead.{IsFirstLine}
-use Rattle.apex_check.specs.declared.verdicts.CheckFault.TheVariants.{NoSeparator}
+use Rattle.apex_check.specs.declared.tables.LeadingFault.TheVariants.{NoSeparator}
 use Rattle.apex_check.specs.Texts.{IsTableText, separator}
 use Rattle.apex_incoming.specs.Lines.{ended}
-use Rattle.apex_check.specs.Verdicts.{IsAtFault, no_separator}
+use Rattle.apex_check.specs.Leading.{LacksTable, without_separator}
 use Rattle.apex_incoming.proofs.Coming.{none_left, or_nothing, taken_more, text_ahead}
 use Rattle.std.proofs.lemmas.Grind.{common_steps}
 use Rattle.apex_check.proofs.Separated.{from_place, last_piece, line_more, none_behind, none_separates}
@@ -20,8 +20,8 @@ returns-in-Rest-clause-err g c =
     let pending = c.next.new.self in
     let now = c.loop-next.invariant in
     let (one, end) = last_piece c.in-Ok.next pending left c.in-Rest.is c.in-Ok.ensures.comes in
-    text_ahead (λ (t : List ℕ). IsAtFault t NoSeparator) old before left c.loop-next.text.items pending now.taken c.in-Ok.ensures.kept
-    (no_separator (none_separates c.loop-next.text.items pending (or_nothing left) c.loop-next.start now.lines now.piece one (none_left left end)))
+    text_ahead (λ (t : List ℕ). LacksTable t NoSeparator) old before left c.loop-next.text.items pending now.taken c.in-Ok.ensures.kept
+    (without_separator (none_separates c.loop-next.text.items pending (or_nothing left) c.loop-next.start now.lines now.piece one (none_left left end)))
 
 pub returns-then-is_separator-clause-taken : goal.returns-then-is_separator-clause-taken
 returns-then-is_separator-clause-taken g c =
