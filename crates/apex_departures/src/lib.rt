@@ -10,5 +10,6 @@ mod shown;
 mod whys;
 
 pub use explaining::{explain, fault_in_memory};
+pub use putting::plain_bytes_are_those_of_ascii;
 pub use shown::{ShownLines, shown_lines};
 pub use whys::why;

@@ -2,6 +2,7 @@
 ghost use Rattle.std.specs.Prelude.{◌≡◌, ◌==◌, ◌≤◌, ◌++◌, decimal, length, OnOk};
 ghost use Rattle.std.specs.List.{common_prefix_len};
 ghost use Rattle.apex_departures.specs.Shown.{are_spaces, column, escaped, is_plain, shown, shown_byte};
+ghost use Rattle.apex_departures.specs.declared.putting.TheConstants.{FIRST_PLAIN, LAST_PLAIN};
 
 use apex_texts::hex_digit;
 use itoa::Buffer;
@@ -56,6 +57,12 @@ const FIRST_PLAIN: u8 = 0x20;
 
 /// The last byte, in their order, that is seen as it is.
 const LAST_PLAIN: u8 = 0x7E;
+
+/// The plain bytes are those of ASCII from a blank to `~`.
+pub fn plain_bytes_are_those_of_ascii()
+    ensures first { FIRST_PLAIN ≡ 32 }
+    ensures last { LAST_PLAIN ≡ 126 }
+{}
 
 /// Whether the byte is seen as it is.
 fn is_plain(byte: u8) -> bool

@@ -6,7 +6,7 @@ ghost use Rattle.apex_dispatch.specs.Works.{broken, work_at};
 
 use apex_machine::{OpenWork, Work};
 use apex_store::Store;
-use apex_types::{CoreId, MOST_CORE_PLACES};
+use apex_types::{CoreId, MOST_CORE_PLACES, MOST_CORES};
 use std::marker::Model;
 
 /// The work that each core has begun and not ended.
@@ -100,7 +100,7 @@ impl Works {
             ≡ option_map (watched (S.roster store.now) c) (work_at self.old c) }
     {
         self.places();
-        for core in 0..8 {
+        for core in 0..MOST_CORES as u8 {
             self.watch_core(store, CoreId::new(core));
         }
     }

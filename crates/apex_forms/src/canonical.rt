@@ -9,7 +9,7 @@ use apex_choices::{Counts, PacedSituation};
 use apex_dispatch::Situation;
 use apex_machine::OpenWork;
 use apex_pace::Pace;
-use apex_types::CoreId;
+use apex_types::{CoreId, MOST_CORES};
 
 /// The turns count up to those of the pace.
 pub(crate) fn kept_turns(pace: Pace, turns: u64) -> u64
@@ -39,7 +39,7 @@ fn kept_counts(paced: &PacedSituation, pace: Pace) -> Counts
 {
     paced.counts.cover_all();
     let mut counts = Counts::new();
-    for number in 0..8 {
+    for number in 0..MOST_CORES as u8 {
         let core = CoreId::new(number);
         let turns = kept_turns(pace, paced.counts.turns(core));
         let worked = kept_worked(paced.work(core), paced.counts.worked(core));

@@ -3,12 +3,18 @@ ghost use Rattle.std.specs.Prelude.{◌≡◌, ◌≤◌};
 ghost use Rattle.apex_types.specs.Limits.{latest};
 ghost use Rattle.apex_types.specs.declared.limits.TheConstants.{MOST_ENTRIES};
 ghost use Rattle.apex_moments.specs.Instants.{next_instant, opening_instant, time_at};
+ghost use Rattle.apex_moments.specs.declared.instants.TheConstants.{WIDE_MOMENTS};
 
 use apex_scales::TickLength;
 
 /// The moments of one time that are a thousandth of a tick apart on an axis. Those behind them are a
 /// hundredth of that apart.
 pub const WIDE_MOMENTS: u64 = 100;
+
+/// Each limit is the number of this profile.
+pub fn limits_of_the_profile()
+    ensures { WIDE_MOMENTS ≡ 100 }
+{}
 
 /// The instant of a moment: its time, and its place among the moments of that time.
 #[derive(Clone, Copy)]

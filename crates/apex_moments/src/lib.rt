@@ -12,7 +12,7 @@ mod texts;
 mod words;
 
 pub use counts::{Counts, counts_of};
-pub use instants::{Instant, WIDE_MOMENTS};
+pub use instants::{Instant, WIDE_MOMENTS, limits_of_the_profile};
 pub use kinds::{Kind, content_of, displayed_on, raised_of, value_of};
 pub use laws::{columns_say_entries, moments_are_in_order, texts_are_read_back};
 pub use moments::{

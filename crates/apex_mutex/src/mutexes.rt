@@ -34,7 +34,7 @@ impl Model for Mutex {
     ghost inverse = { λ m. record { created = m.created } };
 }
 
-/// The process owns another mutex than this one and not this one, and would wait.
+/// The process owns another mutex than this one and not this one, and the timeout is not 0.
 fn may_not_wait(fields: &Record, mutex: MutexId, timeout: Timeout) -> bool
     ensures { result ≡ may_not_wait mutex timeout fields.now }
 {
@@ -100,8 +100,8 @@ impl Mutex {
 
     /// ACQUIRE_MUTEX: the owner goes one deeper; if the mutex is free the caller owns it, else it
     /// waits until the timeout, in ticks, is over. INVALID_PARAM if the mutex isn't created;
-    /// INVALID_MODE if the caller owns another one and not this one and would wait, owns as many as
-    /// it may, its base priority is above the ceiling, it owns this one [`MOST_DEPTH`] deep, or no
+    /// INVALID_MODE if the caller owns another one and not this one and the timeout is not 0, owns as
+    /// many as it may, its base priority is above the ceiling, it owns this one [`MOST_DEPTH`] deep, or no
     /// process calls; NOT_AVAILABLE in place of a wait if the timeout is 0.
     #[tactic(auto, using(apex_machine::proofs::Held::none_held))]
     pub fn acquire<S: Store>(

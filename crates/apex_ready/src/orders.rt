@@ -10,13 +10,15 @@ use apex_links::{LinkSet, ListId, READY_LISTS};
 use apex_types::{CoreId, ProcessId};
 use std::marker::Model;
 
+const WORDS: usize = READY_LISTS / 64;
+
 /// The marks of the ready lists that are not empty, four words for each core: bit b of a core's
 /// word w is that of priority 64 * w + b.
 ///
 /// The lists themselves are in a link set, which is lent to each call.
 #[derive(Drop)]
 pub struct ReadyOrders {
-    words: [u64; 32],
+    words: [u64; WORDS],
 }
 
 impl Model for ReadyOrders {
@@ -40,7 +42,7 @@ impl ReadyOrders {
     pub fn new() -> ReadyOrders
         ensures { (l : ℕ) → is_marked result l ≡ false }
     {
-        ReadyOrders { words: [0; 32] }
+        ReadyOrders { words: [0; WORDS] }
     }
 
     /// Marks the list, which has a process from now on.

@@ -135,7 +135,7 @@ module _ (roster : Roster) where
       by_guard roster x guard.NotCreated (not x.created) _ _ _ (λ _. signals x (first_waiter roster (queues.Semaphore s)))
   semaphores x s (Process p) (Wait timeout) =
       by_guard roster x guard.NotCreated (not x.created) _ _ _
-      (λ _. by_guard roster x guard.OwnerWouldWait (is_waiting_owner roster (Process p) timeout) _ _ _
+      (λ _. by_guard roster x guard.OwnerWithTimeout (is_waiting_owner roster (Process p) timeout) _ _ _
       (λ _. tried roster x p (wait.Semaphore s) SemaphoreIsAtZero timeout (nat_lt 0 x.value) _ refl))
   semaphores x s Init (Wait timeout) = by_guard roster x guard.NotCreated (not x.created) _ _ _ (λ _. refl)
   semaphores x s Nobody (Wait timeout) = by_guard roster x guard.NotCreated (not x.created) _ _ _ (λ _. refl)
@@ -184,7 +184,7 @@ module _ (roster : Roster) where
   buffers x b (Process p) (Send message timeout) =
       by_guard roster x guard.NotCreated (not x.created) _ _ _
       (λ _. by_guard roster x guard.UnfitMessage (is_unfit x.longest message) _ _ _
-      (λ _. by_guard roster x guard.OwnerWouldWait (is_waiting_owner roster (Process p) timeout) _ _ _
+      (λ _. by_guard roster x guard.OwnerWithTimeout (is_waiting_owner roster (Process p) timeout) _ _ _
       (λ _. sent x b p message timeout (first_waiter roster (queues.Buffer b)))))
   buffers x b Init (Send message timeout) =
       by_guard roster x guard.NotCreated (not x.created) _ _ _ (λ _. by_guard roster x guard.UnfitMessage (is_unfit x.longest message) _ _ _ (λ _. refl))
@@ -192,7 +192,7 @@ module _ (roster : Roster) where
       by_guard roster x guard.NotCreated (not x.created) _ _ _ (λ _. by_guard roster x guard.UnfitMessage (is_unfit x.longest message) _ _ _ (λ _. refl))
   buffers x b (Process p) (Receive timeout) =
       by_guard roster x guard.NotCreated (not x.created) _ _ _
-      (λ _. by_guard roster x guard.OwnerWouldWait (is_waiting_owner roster (Process p) timeout) _ _ _
+      (λ _. by_guard roster x guard.OwnerWithTimeout (is_waiting_owner roster (Process p) timeout) _ _ _
       (λ _. got_first x b p timeout x.messages))
   buffers x b Init (Receive timeout) = by_guard roster x guard.NotCreated (not x.created) _ _ _ (λ _. refl)
   buffers x b Nobody (Receive timeout) = by_guard roster x guard.NotCreated (not x.created) _ _ _ (λ _. refl)
@@ -211,7 +211,7 @@ module _ (roster : Roster) where
   blackboards x b caller Clear = by_guard roster x guard.NotCreated (not x.created) _ _ _ (λ _. refl)
   blackboards x b (Process p) (Read timeout) =
       by_guard roster x guard.NotCreated (not x.created) _ _ _
-      (λ _. by_guard roster x guard.OwnerWouldWait (is_waiting_owner roster (Process p) timeout) _ _ _
+      (λ _. by_guard roster x guard.OwnerWithTimeout (is_waiting_owner roster (Process p) timeout) _ _ _
       (λ _. read x b p timeout x.message))
   blackboards x b Init (Read timeout) = by_guard roster x guard.NotCreated (not x.created) _ _ _ (λ _. refl)
   blackboards x b Nobody (Read timeout) = by_guard roster x guard.NotCreated (not x.created) _ _ _ (λ _. refl)
@@ -224,7 +224,7 @@ module _ (roster : Roster) where
   event_flags x e caller events.Reset = by_guard roster x guard.NotCreated (not x.created) _ _ _ (λ _. refl)
   event_flags x e (Process p) (events.Wait timeout) =
       by_guard roster x guard.NotCreated (not x.created) _ _ _
-      (λ _. by_guard roster x guard.OwnerWouldWait (is_waiting_owner roster (Process p) timeout) _ _ _
+      (λ _. by_guard roster x guard.OwnerWithTimeout (is_waiting_owner roster (Process p) timeout) _ _ _
       (λ _. tried roster x p (wait.EventFlag e) EventFlagIsDown timeout x.up _ refl))
   event_flags x e Init (events.Wait timeout) = by_guard roster x guard.NotCreated (not x.created) _ _ _ (λ _. refl)
   event_flags x e Nobody (events.Wait timeout) = by_guard roster x guard.NotCreated (not x.created) _ _ _ (λ _. refl)
@@ -249,20 +249,20 @@ module _ (roster : Roster) where
       → Decided later effect rest
       → Decided
       (cond (not x.created) (Some guard.NotCreated)
-      (cond (may_not_wait m timeout (record_of roster caller)) (Some guard.OwnerOfAnotherWouldWait)
+      (cond (may_not_wait m timeout (record_of roster caller)) (Some guard.OwnerOfAnotherWithTimeout)
       (cond (owns_most roster m (record_of roster caller)) (Some guard.OwnsMost)
       (cond (nat_lt (ceiling_of roster m) (record_of roster caller).base) (Some guard.BaseAboveCeiling)
       (cond (is_deepest m (record_of roster caller)) (Some guard.AtMostDepth) later)))))
       effect
       (cond (not x.created) (refused roster x (code_of guard.NotCreated))
-      (cond (may_not_wait m timeout (record_of roster caller)) (refused roster x (code_of guard.OwnerOfAnotherWouldWait))
+      (cond (may_not_wait m timeout (record_of roster caller)) (refused roster x (code_of guard.OwnerOfAnotherWithTimeout))
       (cond (owns_most roster m (record_of roster caller)) (refused roster x (code_of guard.OwnsMost))
       (cond (nat_lt (ceiling_of roster m) (record_of roster caller).base) (refused roster x (code_of guard.BaseAboveCeiling))
       (cond (is_deepest m (record_of roster caller)) (refused roster x (code_of guard.AtMostDepth)) rest)))))
   asks x m timeout caller later effect rest passes =
       let r = record_of roster caller in
       by_guard roster x guard.NotCreated (not x.created) _ effect _
-      (λ _. by_guard roster x guard.OwnerOfAnotherWouldWait (may_not_wait m timeout r) _ effect _
+      (λ _. by_guard roster x guard.OwnerOfAnotherWithTimeout (may_not_wait m timeout r) _ effect _
       (λ _. by_guard roster x guard.OwnsMost (owns_most roster m r) _ effect _
       (λ _. by_guard roster x guard.BaseAboveCeiling (nat_lt (ceiling_of roster m) r.base) _ effect _
       (λ _. by_guard roster x guard.AtMostDepth (is_deepest m r) _ effect _ (λ _. passes)))))

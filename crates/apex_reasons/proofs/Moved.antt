@@ -138,7 +138,7 @@ module _ (roster : Roster) (p step : ℕ) (known : p < length roster.records) wh
 
   may_wait : (caller : Caller) (timeout : Timeout) → waiting_row moved caller timeout ≡ waiting_row roster caller timeout
   may_wait caller timeout =
-      by_record (λ r. guard.OwnerWouldWait when (owns_some r && not (is_poll timeout)) ∷ guard.NoCaller when is_no_process caller ∷ [])
+      by_record (λ r. guard.OwnerWithTimeout when (owns_some r && not (is_poll timeout)) ∷ guard.NoCaller when is_no_process caller ∷ [])
       (λ r k. refl) caller
 
   processes : (x : ProcessObject) (i : ℕ) (caller : Caller) (service : ProcessService)

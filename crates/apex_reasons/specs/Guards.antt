@@ -4,7 +4,7 @@ use Rattle.std.specs.Prelude.{ℕ, Bool, List, [], ◌∷◌, Option, None, Some
 use Rattle.apex_types.specs.declared.entries.ReturnCode.TheVariants.{NoAction, InvalidParam, InvalidConfig, InvalidMode}
 use Rattle.apex_reasons.specs.Terms.{ReturnCode}
 use Rattle.apex_reasons.specs.declared.guards.Guard.{Guard}
-use Rattle.apex_reasons.specs.declared.guards.Guard.TheVariants.{ModeIsNormal, ModeIsNormalAlready, NoSuchEntry, AlreadyCreated, NotCreated, IdNotCreated, NoSuchCore, PriorityOutOfRange, DormantForPriority, AlreadyStarted, UnfitDelay, NamesCaller, AlreadyDormant, DormantOrPeriodic, AlreadySuspended, NotSuspended, OwnsMutex, NoCaller, CallerIsPeriodic, CallerIsAperiodic, CallerOwnsMutex, OwnerWouldWait, InfiniteTimedWait, InfiniteCapacity, DeadlinePastPeriod, SemaphoreIsFull, UnfitMessage, OwnerOfAnotherWouldWait, OwnsMost, BaseAboveCeiling, AtMostDepth, CallerIsNotOwner}
+use Rattle.apex_reasons.specs.declared.guards.Guard.TheVariants.{ModeIsNormal, ModeIsNormalAlready, NoSuchEntry, AlreadyCreated, NotCreated, IdNotCreated, NoSuchCore, PriorityOutOfRange, DormantForPriority, AlreadyStarted, UnfitDelay, NamesCaller, AlreadyDormant, DormantOrPeriodic, AlreadySuspended, NotSuspended, OwnsMutex, NoCaller, CallerIsPeriodic, CallerIsAperiodic, CallerOwnsMutex, OwnerWithTimeout, InfiniteTimedWait, InfiniteCapacity, DeadlinePastPeriod, SemaphoreIsFull, UnfitMessage, OwnerOfAnotherWithTimeout, OwnsMost, BaseAboveCeiling, AtMostDepth, CallerIsNotOwner}
 
 -- the code with which a guard refuses a call
 abbrev pub code_of : Guard → ReturnCode
@@ -29,13 +29,13 @@ code_of NoCaller = InvalidMode
 code_of CallerIsPeriodic = InvalidMode
 code_of CallerIsAperiodic = InvalidMode
 code_of CallerOwnsMutex = InvalidMode
-code_of OwnerWouldWait = InvalidMode
+code_of OwnerWithTimeout = InvalidMode
 code_of InfiniteTimedWait = InvalidParam
 code_of InfiniteCapacity = NoAction
 code_of DeadlinePastPeriod = InvalidMode
 code_of SemaphoreIsFull = NoAction
 code_of UnfitMessage = InvalidParam
-code_of OwnerOfAnotherWouldWait = InvalidMode
+code_of OwnerOfAnotherWithTimeout = InvalidMode
 code_of OwnsMost = InvalidMode
 code_of BaseAboveCeiling = InvalidMode
 code_of AtMostDepth = InvalidMode
@@ -64,14 +64,14 @@ sentence_of NoCaller = codes "no process calls"
 sentence_of CallerIsPeriodic = codes "the caller is periodic"
 sentence_of CallerIsAperiodic = codes "the caller is aperiodic"
 sentence_of CallerOwnsMutex = codes "the caller owns a mutex"
-sentence_of OwnerWouldWait = codes "the caller owns a mutex and the timeout is not 0"
+sentence_of OwnerWithTimeout = codes "the caller owns a mutex and the timeout is not 0"
 sentence_of InfiniteTimedWait = codes "the timeout is infinite"
 sentence_of InfiniteCapacity = codes "the capacity of the caller is infinite"
 sentence_of DeadlinePastPeriod =
     codes "the deadline would be later than the end of the period of the caller"
 sentence_of SemaphoreIsFull = codes "no process waits and the value is the maximum"
 sentence_of UnfitMessage = codes "the message is empty or longer than the object takes"
-sentence_of OwnerOfAnotherWouldWait =
+sentence_of OwnerOfAnotherWithTimeout =
     codes "the caller owns another mutex, but not this one, and the timeout is not 0"
 sentence_of OwnsMost = codes "the caller does not own the mutex, and owns as many as it may"
 sentence_of BaseAboveCeiling = codes "the base priority of the caller is above the ceiling"

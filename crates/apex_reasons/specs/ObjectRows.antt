@@ -28,7 +28,7 @@ use Rattle.apex_machine.specs.services.SemaphoreServices.{SemaphoreObject}
 use Rattle.apex_reasons.specs.Terms.{BlackboardService, BufferService, Caller, EventFlagService, MutexService, ObjectCall, ProcessService, Record, SemaphoreService, Timeout}
 use Rattle.apex_reasons.specs.Callers.{is_no_process}
 use Rattle.apex_reasons.specs.Guards.{Tested, ◌when◌}
-use Rattle.apex_reasons.specs.declared.guards.Guard.TheVariants.{ModeIsNormal, NoSuchEntry, AlreadyCreated, NotCreated, IdNotCreated, NoSuchCore, PriorityOutOfRange, DormantForPriority, AlreadyStarted, UnfitDelay, NamesCaller, AlreadyDormant, DormantOrPeriodic, AlreadySuspended, NotSuspended, OwnsMutex, NoCaller, OwnerWouldWait, SemaphoreIsFull, UnfitMessage, OwnerOfAnotherWouldWait, OwnsMost, BaseAboveCeiling, AtMostDepth, CallerIsNotOwner}
+use Rattle.apex_reasons.specs.declared.guards.Guard.TheVariants.{ModeIsNormal, NoSuchEntry, AlreadyCreated, NotCreated, IdNotCreated, NoSuchCore, PriorityOutOfRange, DormantForPriority, AlreadyStarted, UnfitDelay, NamesCaller, AlreadyDormant, DormantOrPeriodic, AlreadySuspended, NotSuspended, OwnsMutex, NoCaller, OwnerWithTimeout, SemaphoreIsFull, UnfitMessage, OwnerOfAnotherWithTimeout, OwnsMost, BaseAboveCeiling, AtMostDepth, CallerIsNotOwner}
 
 -- the guards of the services that one kind alone has, for the object at a place
 abbrev pub OwnRow : Type 0 → Type 0 → Type 0
@@ -124,10 +124,10 @@ process_row roster process p caller Resume =
     of_another caller process p (resume_row (record_at roster p))
 
 -- the guards of a service that may wait, after those of its object: the caller owns a mutex and
--- would wait, or no process calls
+-- the timeout is not 0, or no process calls
 abbrev pub waiting_row : Roster → Caller → Timeout → List Tested
 waiting_row roster caller timeout =
-    OwnerWouldWait when is_waiting_owner roster caller timeout
+    OwnerWithTimeout when is_waiting_owner roster caller timeout
     ∷ NoCaller when is_no_process caller ∷ []
 
 -- the guards of the services that semaphores alone have
@@ -166,7 +166,7 @@ event_flag_row roster event_flag caller _ = NotCreated when not event_flag.creat
 -- owns, and then these
 abbrev pub owner_row : Roster → ℕ → Record → Timeout → List Tested → List Tested
 owner_row roster m r timeout later =
-    OwnerOfAnotherWouldWait when may_not_wait m timeout r
+    OwnerOfAnotherWithTimeout when may_not_wait m timeout r
     ∷ OwnsMost when owns_most roster m r
     ∷ BaseAboveCeiling when nat_lt (ceiling_of roster m) r.base
     ∷ AtMostDepth when is_deepest m r ∷ later

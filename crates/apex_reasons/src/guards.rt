@@ -55,7 +55,7 @@ pub enum Guard {
     /// The caller owns a mutex.
     CallerOwnsMutex,
     /// The caller owns a mutex and the timeout is not 0.
-    OwnerWouldWait,
+    OwnerWithTimeout,
     /// The timeout of a TIMED_WAIT is infinite.
     InfiniteTimedWait,
     /// The capacity of the caller is infinite.
@@ -67,7 +67,7 @@ pub enum Guard {
     /// The message is empty, or longer than the object takes.
     UnfitMessage,
     /// The caller does not own the mutex, owns another one, and the timeout is not 0.
-    OwnerOfAnotherWouldWait,
+    OwnerOfAnotherWithTimeout,
     /// The caller does not own the mutex, and owns as many as it may.
     OwnsMost,
     /// The base priority of the caller is above the ceiling of the mutex.
@@ -92,9 +92,9 @@ impl Guard {
             Guard::CallerIsPeriodic => ReturnCode::InvalidMode,
             Guard::CallerIsAperiodic => ReturnCode::InvalidMode,
             Guard::CallerOwnsMutex => ReturnCode::InvalidMode,
-            Guard::OwnerWouldWait => ReturnCode::InvalidMode,
+            Guard::OwnerWithTimeout => ReturnCode::InvalidMode,
             Guard::DeadlinePastPeriod => ReturnCode::InvalidMode,
-            Guard::OwnerOfAnotherWouldWait => ReturnCode::InvalidMode,
+            Guard::OwnerOfAnotherWithTimeout => ReturnCode::InvalidMode,
             Guard::OwnsMost => ReturnCode::InvalidMode,
             Guard::BaseAboveCeiling => ReturnCode::InvalidMode,
             Guard::AtMostDepth => ReturnCode::InvalidMode,
@@ -148,7 +148,7 @@ impl Guard {
             Guard::CallerIsPeriodic => "the caller is periodic",
             Guard::CallerIsAperiodic => "the caller is aperiodic",
             Guard::CallerOwnsMutex => "the caller owns a mutex",
-            Guard::OwnerWouldWait => "the caller owns a mutex and the timeout is not 0",
+            Guard::OwnerWithTimeout => "the caller owns a mutex and the timeout is not 0",
             Guard::InfiniteTimedWait => "the timeout is infinite",
             Guard::InfiniteCapacity => "the capacity of the caller is infinite",
             Guard::DeadlinePastPeriod => {
@@ -156,7 +156,7 @@ impl Guard {
             }
             Guard::SemaphoreIsFull => "no process waits and the value is the maximum",
             Guard::UnfitMessage => "the message is empty or longer than the object takes",
-            Guard::OwnerOfAnotherWouldWait => {
+            Guard::OwnerOfAnotherWithTimeout => {
                 "the caller owns another mutex, but not this one, and the timeout is not 0"
             }
             Guard::OwnsMost => "the caller does not own the mutex, and owns as many as it may",

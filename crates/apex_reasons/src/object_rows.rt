@@ -225,7 +225,7 @@ fn waiting_guard<S: Store>(store: &S, caller: &Caller, timeout: Timeout) -> Opti
     ensures { result ≡ first_holding (waiting_row (S.roster store.now) caller.now timeout) }
 {
     if is_waiting_owner(store, caller, timeout) {
-        Some(Guard::OwnerWouldWait)
+        Some(Guard::OwnerWithTimeout)
     } else if is_no_process(caller) {
         Some(Guard::NoCaller)
     } else {
@@ -349,7 +349,7 @@ fn owner_guard<S: Store>(store: &S, fields: &Record, id: MutexId, timeout: Timeo
 {
     let owns = fields.owns(id);
     if !owns && fields.owns_some() && timeout != Timeout::Poll {
-        Some(Guard::OwnerOfAnotherWouldWait)
+        Some(Guard::OwnerOfAnotherWithTimeout)
     } else if !owns && fields.owned.len() >= store.most_owned() {
         Some(Guard::OwnsMost)
     } else if fields.base > store.ceiling(id) {

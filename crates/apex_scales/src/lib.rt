@@ -6,4 +6,4 @@ mod axes;
 mod ticks;
 
 pub use axes::Axis;
-pub use ticks::{LEAST_TICK, LONGEST_TICK, TickLength};
+pub use ticks::{LEAST_TICK, LONGEST_TICK, TickLength, limits_of_the_profile};

@@ -11,6 +11,12 @@ pub const LEAST_TICK: u32 = 100;
 /// The greatest length of a tick, in microseconds.
 pub const LONGEST_TICK: u32 = 100_000;
 
+/// Each limit is the number of this profile.
+pub fn limits_of_the_profile()
+    ensures least_tick { LEAST_TICK ≡ 100 }
+    ensures longest_tick { LONGEST_TICK ≡ 100000 }
+{}
+
 /// The length of a tick on the axis of a trace.
 #[derive(Clone, Copy)]
 pub struct TickLength {

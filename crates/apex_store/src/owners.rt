@@ -39,7 +39,7 @@ pub fn is_owner<S: Store>(store: &S, caller: &Caller) -> bool
     }
 }
 
-/// The caller owns a mutex, and would wait.
+/// The caller owns a mutex, and the timeout is not 0.
 pub fn is_waiting_owner<S: Store>(store: &S, caller: &Caller, timeout: Timeout) -> bool
     requires { IsReadyCaller (S.roster store.now) caller.now }
     ensures { result ≡ is_waiting_owner (S.roster store.now) caller.now timeout }

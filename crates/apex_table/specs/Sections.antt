@@ -3,7 +3,7 @@ use Rattle.std.specs.Prelude.{ℕ, ◌+◌, List, [], length, map, Option, Resul
 use Rattle.toml.specs.Data.{Data, Members}
 use Rattle.apex_words.specs.declared.fault.Section.{Section}
 use Rattle.apex_table.specs.Terms.{Key, Place, TableFault}
-use Rattle.apex_table.specs.declared.sections.Head.{Head}
+use Rattle.apex_table.specs.declared.sections.SectionHead.{SectionHead as CodeHead}
 use Rattle.apex_words.specs.declared.key.Key.TheVariants.{Entries}
 use Rattle.apex_words.specs.Subjects.{whole}
 use Rattle.apex_words.specs.Outcome.{◌>>=◌, each, place}
@@ -15,7 +15,7 @@ pub record SectionHead : Type 0 where
   pub most : ℕ
   pub keys : List Key
 
-abbrev pub head_of : Head → SectionHead
+abbrev pub head_of : CodeHead → SectionHead
 head_of head = record { section = head.section; most = head.most; keys = head.keys.now }
 
 -- a kind of entries: its section, the name of an entry, and the reading of the entry of a name

@@ -2,15 +2,15 @@
 ghost use Rattle.apex_table.specs.Blackboards.{blackboards};
 
 use crate::keys;
-use crate::named::Named;
-use crate::sections::{EntryKind, Head};
+use crate::named::HasName;
+use crate::sections::{EntryKind, SectionHead};
 use apex_configs::BlackboardConfig;
 use apex_types::{MOST_MESSAGE, MOST_OBJECTS, Name};
 use apex_words::{Key, Place, Section, TableFault};
 use std::alloc::Global;
 use toml::Table;
 
-impl Named for BlackboardConfig {
+impl HasName for BlackboardConfig {
     ghost name_of = { λ b. b.name };
 
     fn name(&self) -> &Name {
@@ -29,8 +29,8 @@ impl<'a> EntryKind<'a> for Blackboards {
 
     ghost read = { λ _. blackboards.read };
 
-    fn head(&self) -> Head<'static> {
-        Head {
+    fn head(&self) -> SectionHead<'static> {
+        SectionHead {
             section: Section::Blackboard,
             most: MOST_OBJECTS,
             keys: &[Key::Name, Key::Length],

@@ -2,15 +2,15 @@
 ghost use Rattle.apex_table.specs.Buffers.{buffers};
 
 use crate::keys;
-use crate::named::Named;
-use crate::sections::{EntryKind, Head};
+use crate::named::HasName;
+use crate::sections::{EntryKind, SectionHead};
 use apex_configs::BufferConfig;
 use apex_types::{MOST_MESSAGE, MOST_MESSAGES, MOST_OBJECTS, Name};
 use apex_words::{Key, Place, Section, TableFault};
 use std::alloc::Global;
 use toml::Table;
 
-impl Named for BufferConfig {
+impl HasName for BufferConfig {
     ghost name_of = { λ b. b.name };
 
     fn name(&self) -> &Name {
@@ -29,8 +29,8 @@ impl<'a> EntryKind<'a> for Buffers {
 
     ghost read = { λ _. buffers.read };
 
-    fn head(&self) -> Head<'static> {
-        Head {
+    fn head(&self) -> SectionHead<'static> {
+        SectionHead {
             section: Section::Buffer,
             most: MOST_OBJECTS,
             keys: &[Key::Name, Key::Length, Key::Capacity, Key::Discipline],

@@ -1,15 +1,15 @@
 //! The section of event flags.
 ghost use Rattle.apex_table.specs.EventFlags.{event_flags};
 
-use crate::named::Named;
-use crate::sections::{EntryKind, Head};
+use crate::named::HasName;
+use crate::sections::{EntryKind, SectionHead};
 use apex_configs::EventFlagConfig;
 use apex_types::{MOST_OBJECTS, Name};
 use apex_words::{Key, Place, Section, TableFault};
 use std::alloc::Global;
 use toml::Table;
 
-impl Named for EventFlagConfig {
+impl HasName for EventFlagConfig {
     ghost name_of = { λ e. e.name };
 
     fn name(&self) -> &Name {
@@ -28,8 +28,8 @@ impl<'a> EntryKind<'a> for EventFlags {
 
     ghost read = { λ _. event_flags.read };
 
-    fn head(&self) -> Head<'static> {
-        Head {
+    fn head(&self) -> SectionHead<'static> {
+        SectionHead {
             section: Section::EventFlag,
             most: MOST_OBJECTS,
             keys: &[Key::Name],

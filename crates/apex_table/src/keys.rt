@@ -4,7 +4,7 @@ ghost use Rattle.toml.specs.View.{view, table_view};
 ghost use Rattle.apex_words.specs.Outcome.{Gives};
 ghost use Rattle.apex_table.specs.Keys.{is_one_of, other_key, known, value_at, required, text, truth, table, array, array_at, at_most, number, number_at, number_or, span, span_or_infinite, truth_or, text_at, deadline_type, deadline, deadline_or_soft, discipline, discipline_at, well_formed, name_at};
 
-use crate::named::{Named, has_name};
+use crate::named::{HasName, has_name};
 use apex_types::{DeadlineType, Discipline, MOST_SPAN, Name, Span};
 use apex_words::{Key, Place, Subject, TableFault};
 use toml::{Table, Value};
@@ -249,7 +249,7 @@ pub fn well_formed(subject: Subject, text: &str) -> Result<Name, TableFault>
 
 /// The name of an entry, which none of those before it in its section has.
 #[tactic(auto, unfolding(crate::specs::Keys::name_at))]
-pub fn name_at<T: Named>(at: Place, before: &[T], table: &Table) -> Result<Name, TableFault>
+pub fn name_at<T: HasName>(at: Place, before: &[T], table: &Table) -> Result<Name, TableFault>
     ensures { Gives (λ n. n) result (name_at at (map T.name_of before.now) (table_view table.now)) }
 {
     let text = text_at(at, table, Key::Name)?;

@@ -2,15 +2,15 @@
 ghost use Rattle.apex_table.specs.Mutexes.{mutexes};
 
 use crate::keys;
-use crate::named::Named;
-use crate::sections::{EntryKind, Head};
+use crate::named::HasName;
+use crate::sections::{EntryKind, SectionHead};
 use apex_configs::MutexConfig;
 use apex_types::{MOST_OBJECTS, MOST_PRIORITY, Name};
 use apex_words::{Key, Place, Section, TableFault};
 use std::alloc::Global;
 use toml::Table;
 
-impl Named for MutexConfig {
+impl HasName for MutexConfig {
     ghost name_of = { λ m. m.name };
 
     fn name(&self) -> &Name {
@@ -29,8 +29,8 @@ impl<'a> EntryKind<'a> for Mutexes {
 
     ghost read = { λ _. mutexes.read };
 
-    fn head(&self) -> Head<'static> {
-        Head {
+    fn head(&self) -> SectionHead<'static> {
+        SectionHead {
             section: Section::Mutex,
             most: MOST_OBJECTS,
             keys: &[Key::Name, Key::Ceiling, Key::Discipline],

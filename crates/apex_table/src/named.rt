@@ -6,7 +6,7 @@ ghost use Rattle.std.specs.Str.{bytes_eq};
 use apex_types::Name;
 
 /// An entry of a section, which has a name.
-pub trait Named {
+pub trait HasName {
     ghost name_of: { Self → List ℕ };
 
     /// The entry's name, which no other entry of its section has.
@@ -15,7 +15,7 @@ pub trait Named {
 }
 
 /// Whether an entry has this name.
-pub fn has_name<T: Named>(entries: &[T], name: &[u8]) -> bool
+pub fn has_name<T: HasName>(entries: &[T], name: &[u8]) -> bool
     ensures { result ≡ list_any (bytes_eq name.now) (map T.name_of entries.now) }
 {
     for entry in entries {

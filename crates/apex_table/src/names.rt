@@ -3,7 +3,7 @@ ghost use Rattle.std.specs.Prelude.{◌≡◌, ◌≤◌, map, length, IfOk};
 ghost use Rattle.apex_types.specs.declared.limits.TheConstants.{MOST_PROCESSES};
 ghost use Rattle.apex_table.specs.Names.{names_in, names_of};
 
-use crate::named::Named;
+use crate::named::HasName;
 use crate::processes::Draft;
 use apex_calls::Kind;
 use apex_configs::Objects;
@@ -47,7 +47,7 @@ impl Model for Names {
 }
 
 /// The names of the entries of one kind.
-fn listed<T: Named>(alloc: Global, entries: &[T]) -> Result<Vec<Name>, AllocError>
+fn listed<T: HasName>(alloc: Global, entries: &[T]) -> Result<Vec<Name>, AllocError>
     ensures { IfOk result (λ names. names.items ≡ map T.name_of entries.now) }
 {
     let mut names = Vec::with_capacity(alloc, entries.len())?;

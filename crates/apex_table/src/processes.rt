@@ -7,8 +7,8 @@ ghost use Rattle.apex_table.specs.Sections.{head_of};
 ghost use Rattle.apex_table.specs.Processes.{some_process, texts, some_step, script_at, processes};
 
 use crate::keys;
-use crate::named::Named;
-use crate::sections::{EntryKind, Head};
+use crate::named::HasName;
+use crate::sections::{EntryKind, SectionHead};
 use apex_machine::{Attributes, Profile};
 use apex_types::{CoreId, MOST_PRIORITY, MOST_STEPS, Name};
 use apex_words::{Key, Place, Section, Subject, TableFault};
@@ -53,7 +53,7 @@ impl<'a> Model for Draft<'a> {
     ghost invariant = { λ d. length d.script.items ≤ MOST_STEPS };
 }
 
-impl<'a> Named for Draft<'a> {
+impl<'a> HasName for Draft<'a> {
     ghost name_of = { λ d. d.name };
 
     fn name(&self) -> &Name {
@@ -129,11 +129,11 @@ impl<'a> EntryKind<'a> for Processes {
 
     ghost read = { λ k. (processes k.profile k.cores).read };
 
-    fn head(&self) -> Head<'static>
+    fn head(&self) -> SectionHead<'static>
         ensures head { head_of result ≡ (processes self.now.profile self.now.cores).head }
         ensures few_entries { result.most ≤ MOST_INIT_STEPS }
     {
-        Head {
+        SectionHead {
             section: Section::Process,
             most: self.profile.processes(),
             keys: PROCESS_KEYS,

@@ -7,7 +7,7 @@ ghost use Rattle.apex_words.specs.Outcome.{Gives};
 ghost use Rattle.apex_table.specs.Sections.{SectionHead, head_of, kind_of, tables, next_entry, section};
 
 use crate::keys;
-use crate::named::Named;
+use crate::named::HasName;
 use apex_types::Name;
 use apex_words::{Key, Place, Section, TableFault};
 use std::alloc::Global;
@@ -15,7 +15,7 @@ use toml::{Table, Value};
 
 /// A section, the most entries that it may have, and the keys of one.
 #[derive(Clone, Copy)]
-pub struct Head<'k> {
+pub struct SectionHead<'k> {
     /// The section of the entries.
     pub section: Section,
     /// The most entries that it may have.
@@ -29,14 +29,14 @@ pub trait EntryKind<'a> {
     ghost use Rattle.apex_words.specs.declared.fault.Place.{Place};
     ghost use Rattle.apex_words.specs.declared.fault.TableFault.{TableFault};
 
-    type Entry: Named + Drop;
+    type Entry: HasName + Drop;
 
     ghost head: { Self → SectionHead };
 
     ghost read: { Self → Place → List ℕ → Members → Result Self.Entry TableFault };
 
     /// The section of these entries, the most of them, and the keys of one.
-    fn head(&self) -> Head<'static>
+    fn head(&self) -> SectionHead<'static>
         ensures head { head_of result ≡ head self.now }
         ensures few_entries { result.most ≤ MOST_INIT_STEPS };
 
@@ -51,7 +51,7 @@ pub trait EntryKind<'a> {
         ensures { Gives (λ e. e) result (read self.now at name (table_view table.now)) };
 }
 
-fn tables<'a>(head: Head<'_>, value: Option<&'a Value>) -> Result<&'a [Value], TableFault>
+fn tables<'a>(head: SectionHead<'_>, value: Option<&'a Value>) -> Result<&'a [Value], TableFault>
     ensures gives { Gives (λ s. map view s.now) result
         (tables (head_of head.entry) (option_map (λ v. view v.now) value.entry)) }
     ensures few_entries { IfOk result (λ s. length s.now ≤ head.entry.most) }
@@ -70,7 +70,7 @@ fn tables<'a>(head: Head<'_>, value: Option<&'a Value>) -> Result<&'a [Value], T
 #[tactic(auto, unfolding(crate::specs::Sections::entry))]
 fn next_entry<'a, K: EntryKind<'a>>(
     alloc: Global,
-    head: Head<'_>,
+    head: SectionHead<'_>,
     kind: &K,
     before: &[K::Entry],
     value: &'a Value,

@@ -2,15 +2,15 @@
 ghost use Rattle.apex_table.specs.Semaphores.{semaphores};
 
 use crate::keys;
-use crate::named::Named;
-use crate::sections::{EntryKind, Head};
+use crate::named::HasName;
+use crate::sections::{EntryKind, SectionHead};
 use apex_configs::SemaphoreConfig;
 use apex_types::{MOST_OBJECTS, MOST_VALUE, Name};
 use apex_words::{Key, Place, Section, TableFault};
 use std::alloc::Global;
 use toml::Table;
 
-impl Named for SemaphoreConfig {
+impl HasName for SemaphoreConfig {
     ghost name_of = { λ s. s.name };
 
     fn name(&self) -> &Name {
@@ -29,8 +29,8 @@ impl<'a> EntryKind<'a> for Semaphores {
 
     ghost read = { λ _. semaphores.read };
 
-    fn head(&self) -> Head<'static> {
-        Head {
+    fn head(&self) -> SectionHead<'static> {
+        SectionHead {
             section: Section::Semaphore,
             most: MOST_OBJECTS,
             keys: &[Key::Name, Key::Maximum, Key::Initial, Key::Discipline],

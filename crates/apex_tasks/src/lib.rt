@@ -13,4 +13,5 @@ mod words;
 
 pub use faults::{TaskFault, USAGE};
 pub use lints::Lint;
+pub use numbers::limits_of_the_profile;
 pub use tasks::{Task, Why, task_asked};

@@ -5,6 +5,7 @@ ghost use Rattle.apex_types.specs.Limits.{latest};
 ghost use Rattle.apex_types.specs.Numbers.{at_least, at_most, has_leading_zero, number_of};
 ghost use Rattle.apex_types.specs.declared.limits.TheConstants.{MOST_ENTRIES};
 ghost use Rattle.apex_tasks.specs.Numbers.{jobs_in, number_in, pace_in, percent_in, room_in, tick_in, time_of};
+ghost use Rattle.apex_tasks.specs.declared.numbers.TheConstants.{MOST_JOBS, MOST_STATES, USUAL_STATES};
 
 use apex_pace::{Pace, USUAL_TURNS};
 use apex_scales::{LONGEST_TICK, TickLength};
@@ -22,6 +23,13 @@ const MOST_STATES: u32 = 4_294_967_295;
 
 /// The greatest number of jobs that a search may have.
 const MOST_JOBS: u32 = 64;
+
+/// Each limit is the number of this profile.
+pub fn limits_of_the_profile()
+    ensures usual_states { USUAL_STATES ≡ 1000000 }
+    ensures most_states { MOST_STATES ≡ 4294967295 }
+    ensures most_jobs { MOST_JOBS ≡ 64 }
+{}
 
 fn has_leading_zero(word: &[u8]) -> bool
     ensures { result ≡ has_leading_zero word.now }

@@ -30,8 +30,8 @@ IsNumbered (queues.Mutex m) = m < ID_PLACES
 abbrev pub wait_list : Queue → ℕ
 wait_list queue = READY_LISTS + queue_place queue
 
--- the queues as a contract sees them: the number of waiters of each, and the priority that each
--- process had when it began to wait
+-- the queues as a contract sees them: the number of waiters of each, and the priority with which
+-- each process joined its queue last
 pub record Waits : Type 0 where
   pub counts : List ℕ
   pub priorities : List ℕ

@@ -12,8 +12,8 @@ use apex_types::{Discipline, ProcessId};
 use std::alloc::{AllocError, Global};
 use std::marker::Model;
 
-/// The number of waiters of each queue, and the priority that each process had when it began to
-/// wait.
+/// The number of waiters of each queue, and the priority with which each process joined its queue
+/// last.
 ///
 /// The queues themselves are lists of a link set, which is lent to each call.
 #[derive(Drop)]

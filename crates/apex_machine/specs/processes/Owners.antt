@@ -31,7 +31,7 @@ is_poll Poll = true
 is_poll (Ticks n) = false
 is_poll Infinite = false
 
--- the process owns a mutex, but not mutex m, and would wait
+-- the process owns a mutex, but not mutex m, and the timeout is not 0
 abbrev pub may_not_wait : ℕ → Timeout → Record → Bool
 may_not_wait m timeout r = not (owns m r) && owns_some r && not (is_poll timeout)
 
@@ -57,7 +57,7 @@ record_of roster Nobody = nobody
 abbrev pub is_owner : Roster → Caller → Bool
 is_owner roster caller = owns_some (record_of roster caller)
 
--- the caller owns a mutex, and would wait
+-- the caller owns a mutex, and the timeout is not 0
 abbrev pub is_waiting_owner : Roster → Caller → Timeout → Bool
 is_waiting_owner roster caller timeout = is_owner roster caller && not (is_poll timeout)
 

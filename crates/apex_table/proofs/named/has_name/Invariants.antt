@@ -5,5 +5,5 @@ use Rattle.apex_table.proofs.named.has_name.Given as goal
 
 abbrev pub invariant-loop-entry : goal.invariant-loop-entry
 invariant-loop-entry g l =
-    list_any (bytes_eq l.name) (map g.T.Named.name_of (drop l.entry-index l.entries))
-    ≡ list_any (bytes_eq l.name) (map g.T.Named.name_of l.entries)
+    list_any (bytes_eq l.name) (map g.T.HasName.name_of (drop l.entry-index l.entries))
+    ≡ list_any (bytes_eq l.name) (map g.T.HasName.name_of l.entries)
