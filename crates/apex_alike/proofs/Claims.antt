@@ -53,6 +53,7 @@ no_run_is_at_standstill table lawful asked seen closed none events all p still =
     let is = closed_search table lawful asked seen closed events all in
     let rosters = is.stands.rosters in
     none is.place is.situation is.here p (record {
+      mode = sym rosters.mode ∙ still.mode;
       started = sym (ap (λ (x : Record). x.started) (rosters.each p).is) ∙ still.started;
       idle = λ core. sym (same_chosen rosters core) ∙ still.idle core;
       silent = never is.later (next_instant is.situation.roster) (sym (same_next rosters) ∙ still.silent);

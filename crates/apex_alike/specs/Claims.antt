@@ -2,6 +2,7 @@
 use Rattle.std.specs.Prelude.{◌≡◌, ℕ, Bool, true, false, List, All, None, Some, slice_get}
 use Rattle.std.specs.List.{list_any}
 use Rattle.apex_types.specs.declared.entries.Notice.TheVariants.{Woken, Released, Missed}
+use Rattle.apex_types.specs.declared.modes.Mode.TheVariants.{Normal}
 use Rattle.apex_machine.specs.Machine.{opening, run}
 use Rattle.apex_machine.specs.Situations.{Situation, deed}
 use Rattle.apex_machine.specs.processes.Dues.{next_instant}
@@ -28,7 +29,8 @@ ReportsNoMiss table asked seen =
     → (i : ℕ) (event : Event) → slice_get asked i ≡ Some event
     → reports_miss (deed table s event).outcome.notices ≡ false
 
--- if a search has closed and no deed that it saw reports a missed deadline, no entry of a run does
+-- if a search has closed and no deed that it saw reports a missed deadline, no entry of a run of its
+-- events does
 abbrev pub NoRunMisses : Table → Type 0
 NoRunMisses table =
     (asked : List Event) (seen : List Situation) → HasClosed table asked seen
@@ -37,13 +39,15 @@ NoRunMisses table =
     → All (λ (e : Entry). reports_miss e.notices ≡ false)
     (run table (opening table) events).history
 
--- process p is started, no core has a process to run, and no instant is awaited
+-- in NORMAL, process p is started, no core has a process to run, and no instant is awaited
 pub record IsAtStandstill (roster : Roster) (p : ℕ) : Type 0 where
+  pub mode : roster.mode ≡ Normal
   pub started : (record_at roster p).started ≡ true
   pub idle : (core : ℕ) → chosen roster core ≡ None
   pub silent : next_instant roster ≡ None
 
--- if a search has closed and none of its situations stands still, no machine does
+-- if a search has closed and none of its situations is at a standstill, no machine is after a run of
+-- its events
 abbrev pub NoRunIsAtStandstill : Table → Type 0
 NoRunIsAtStandstill table =
     (asked : List Event) (seen : List Situation) → HasClosed table asked seen

@@ -27,14 +27,14 @@ pub fn closed_runs_come_to_all()
     ensures { OfEachTable RunsComeToAll }
 {}
 
-/// If a search has closed, and no step that it saw reports a missed deadline, no entry of any run
-/// does.
+/// If a search has closed, and no step that it saw reports a missed deadline, no entry of a run of
+/// its events does.
 pub fn closed_search_finds_misses()
     ensures { OfEachTable NoRunMisses }
 {}
 
-/// If a search has closed, and none of its situations is at a standstill, no machine is: none that has a
-/// started process, but no process to run and no instant to wait for.
+/// If a search has closed, and none of its situations is at a standstill, no run of its events ends
+/// in one: in NORMAL with a started process, but no process to run and no instant to wait for.
 pub fn closed_search_finds_standstills()
     ensures { OfEachTable NoRunIsAtStandstill }
 {}

@@ -48,7 +48,7 @@ unsettled false false false h = absurd (true≢false h)
 unsettled false true few h = absurd (true≢false h)
 unsettled true work few h = absurd (true≢false h)
 
-unsettled_core : (pace : Pace) (s : Paced) (core : ℕ) → is_settled pace s core ≡ false
+pub unsettled_core : (pace : Pace) (s : Paced) (core : ℕ) → is_settled pace s core ≡ false
     → (is_idle s core ≡ false) × (is_at_work s core ≡ false) × (nat_lt (s.turns core) pace.turns ≡ true)
 unsettled_core pace s core = unsettled (is_idle s core) (is_at_work s core) (nat_lt (s.turns core) pace.turns)
 

@@ -11,7 +11,7 @@ use Rattle.apex_pace.specs.Terms.{Event, Pace}
 use Rattle.apex_pace.proofs.Times.{tick_passes}
 
 -- what holds of each branch holds of an if
-on_if : {X : Type 0} (P : X → Type 0) (b : Bool) (x y : X) → (b ≡ true → P x) → (b ≡ false → P y) → P (if b then x else y)
+pub on_if : {X : Type 0} (P : X → Type 0) (b : Bool) (x y : X) → (b ≡ true → P x) → (b ≡ false → P y) → P (if b then x else y)
 on_if P true x y yes_ no_ = yes_ refl
 on_if P false x y yes_ no_ = no_ refl
 
@@ -22,7 +22,7 @@ module _ (pace : Pace) (table : Table) where
   keeps_append s (event ∷ first) rest kept later =
       (kept.0, keeps_append (paced_step table s event) first rest kept.1 later)
 
-  round_keeps : (s : Paced) (n : ℕ) → n ≤ table.cores → KeepsPace pace table s (round pace table s n)
+  pub round_keeps : (s : Paced) (n : ℕ) → n ≤ table.cores → KeepsPace pace table s (round pace table s n)
   round_keeps s zero within = tt
   round_keeps s (suc n) within =
       let core = table.cores - suc n in
@@ -37,10 +37,14 @@ module _ (pace : Pace) (table : Table) where
       (λ waits. left)
 
   -- to go on with the rest after the first events is to go through all of them
-  run_append : (s : Paced) (first rest : List Event)
+  pub run_append : (s : Paced) (first rest : List Event)
       → paced_run table s (first ++ rest) ≡ paced_run table (paced_run table s first) rest
   run_append s [] rest = refl
   run_append s (event ∷ first) rest = run_append (paced_step table s event) first rest
+
+  -- the next tick is allowed
+  pub is_next : (s : Paced) (n : ℕ) → next_tick pace table s ≡ Some n → is_instant n (next_tick pace table s) ≡ true
+  is_next s n e = rw (e, eq-eqb n n refl) refl
 
   module _ (until : ℕ) where
     -- the events keep the pace, but for their last tick, which is cut short
@@ -51,42 +55,41 @@ module _ (pace : Pace) (table : Table) where
     abbrev Fits : Paced → Part → Type 0
     Fits s p = (p.ends ≡ false → KeepsPace pace table s p.events) × (p.ends ≡ true → Keeps s p.events)
 
+    -- a tick of the pace that is cut short here
+    pub cut_here : (s : Paced) → s.situation.roster.now < until → (n : ℕ) → next_tick pace table s ≡ Some n
+        → nat_lt (s.situation.roster.now + n) until ≡ false → IsCutShort pace table until s (Tick (until - s.situation.roster.now) ∷ [])
+    cut_here s before n e later =
+        let ticks = until - s.situation.roster.now in
+        let stops : s.situation.roster.now + ticks ≡ until = omega (arith, before) in
+        let sooner : ticks ≤ n = omega (arith, ltb-false (s.situation.roster.now + n) until later) in
+        record {
+          earlier = [];
+          ticks = ticks;
+          whole = n;
+          cut = refl;
+          some = omega (arith, before);
+          sooner = sooner;
+          stops = stops;
+          time = λ served. tick_passes pace table s n ticks e sooner served ∙ stops;
+          keeps = (is_next s n e, tt);
+        }
+
     closing_fits : (s : Paced) → s.situation.roster.now < until → (n : Option ℕ) → next_tick pace table s ≡ n
         → Fits s (closing until s n)
     closing_fits s before None e = ((λ h. tt), λ h. inl tt)
     closing_fits s before (Some n) e =
-        let allowed : is_instant n (next_tick pace table s) ≡ true = rw (e, eq-eqb n n refl) refl in
         on_if (Fits s) (nat_lt (s.situation.roster.now + n) until) _ _
-        (λ sooner. ((λ h. (allowed, tt)), λ h. absurd (true≢false (sym h))))
-        (λ later. (
-          (λ h. absurd (true≢false h)),
-          λ h.
-              let ticks = until - s.situation.roster.now in
-              let stops : s.situation.roster.now + ticks ≡ until = omega (arith, before) in
-              let sooner : ticks ≤ n = omega (arith, ltb-false (s.situation.roster.now + n) until later) in
-              inr (record {
-                earlier = [];
-                ticks = ticks;
-                whole = n;
-                cut = refl;
-                some = omega (arith, before);
-                sooner = sooner;
-                stops = stops;
-                time = λ served. tick_passes pace table s n ticks e sooner served ∙ stops;
-                keeps = (allowed, tt);
-              }),
-        ))
+        (λ sooner. ((λ h. (is_next s n e, tt)), λ h. absurd (true≢false (sym h))))
+        (λ later. ((λ h. absurd (true≢false h)), λ h. inr (cut_here s before n e later)))
 
     part_fits : (s : Paced) → s.situation.roster.now < until → (turns : List Event) → KeepsPace pace table s turns
         → Fits s (turns_or_tick pace table until s turns)
     part_fits s before [] kept = closing_fits s before (next_tick pace table s) refl
     part_fits s before (turn ∷ turns) kept = ((λ h. kept), λ h. absurd (true≢false (sym h)))
 
-    -- the rest of a schedule after a part of it that keeps the pace
-    then_keeps : (s : Paced) (first rest : List Event) → KeepsPace pace table s first
-        → Keeps (paced_run table s first) rest → Keeps s (first ++ rest)
-    then_keeps s first rest kept (inl later) = inl (keeps_append s first rest kept later)
-    then_keeps s first rest kept (inr cut) = inr (record {
+    pub then_cut : (s : Paced) (first rest : List Event) → KeepsPace pace table s first
+        → IsCutShort pace table until (paced_run table s first) rest → IsCutShort pace table until s (first ++ rest)
+    then_cut s first rest kept cut = record {
       earlier = first ++ cut.earlier;
       ticks = cut.ticks;
       whole = cut.whole;
@@ -99,7 +102,13 @@ module _ (pace : Pace) (table : Table) where
           ∙ cut.time (subst IsServed (run_append s first cut.earlier) served);
       keeps = rw (append_assoc first cut.earlier (Tick cut.whole ∷ []))
           (keeps_append s first (cut.earlier ++ Tick cut.whole ∷ []) kept cut.keeps);
-    })
+    }
+
+    -- the rest of a schedule after a part of it that keeps the pace
+    then_keeps : (s : Paced) (first rest : List Event) → KeepsPace pace table s first
+        → Keeps (paced_run table s first) rest → Keeps s (first ++ rest)
+    then_keeps s first rest kept (inl later) = inl (keeps_append s first rest kept later)
+    then_keeps s first rest kept (inr cut) = inr (then_cut s first rest kept cut)
 
     pub rounds_keep : (n : ℕ) (s : Paced) → Keeps s (rounds pace table until n s)
     rounds_keep zero s = inl tt

@@ -7,3 +7,4 @@ pub mod Ends
 pub mod Tighter
 pub mod Times
 pub mod First
+pub mod Over

@@ -37,6 +37,20 @@ FirstKeepsPace pace table until =
     KeepsPace pace table (paced_opening table) (first_schedule pace table until)
     ⊎ IsCutShort pace table until (paced_opening table) (first_schedule pace table until)
 
+-- after these events no more are to come: it is `until`, the pace is at rest, or they are at least as
+-- many as there is room for
+abbrev pub IsOver : Pace → Table → ℕ → ℕ → Paced → List Event → Type 0
+IsOver pace table until room s events =
+    let after = paced_run table s events in
+    (until ≤ after.situation.roster.now) ⊎ (IsAtRest pace table after ⊎ (room ≤ length events))
+
+-- the first schedule goes on until no more is to come, or up to a last tick that is cut short
+abbrev pub FirstGoesOn : Pace → Table → ℕ → Type 0
+FirstGoesOn pace table until =
+    let events = first_schedule pace table until in
+    IsOver pace table until table.limit (paced_opening table) events
+    ⊎ IsCutShort pace table until (paced_opening table) events
+
 -- each event is a turn, after COLD_START, of a core that is not settled
 abbrev pub AreEager : Pace → Table → Paced → List Event → Type 0
 AreEager pace table s [] = Unit {0}

@@ -1,7 +1,7 @@
 //! The laws of a pace. Each is the contract of a function that changes nothing.
 ghost use Rattle.std.specs.Prelude.{ℕ};
 ghost use Rattle.apex_machine.specs.table.Table.{Table};
-ghost use Rattle.apex_pace.specs.Laws.{AllowsNoMore, FirstKeepsPace, IsPace, IsTighter, MoreTurnsKeepNoMore, NoTurnIsIdle, TimeGoesOn};
+ghost use Rattle.apex_pace.specs.Laws.{AllowsNoMore, FirstGoesOn, FirstKeepsPace, IsPace, IsTighter, MoreTurnsKeepNoMore, NoTurnIsIdle, TimeGoesOn};
 ghost use Rattle.apex_pace.specs.Terms.{Pace};
 ghost use Rattle.apex_pace.specs.Pace.{Paced};
 
@@ -10,6 +10,13 @@ ghost use Rattle.apex_pace.specs.Pace.{Paced};
 /// a deadline was left to be served before it.
 pub fn first_schedule_keeps_the_pace()
     ensures { (pace : Pace) (table : Table) (until : ℕ) → FirstKeepsPace pace table until }
+{}
+
+/// The first schedule of a pace ends only at the time that was asked for, in a state at rest, or as soon
+/// as it has an event for each entry that the history has room for.
+pub fn first_schedule_goes_on()
+    ensures { (pace : Pace) (table : Table) (until : ℕ) → IsPace pace
+        → FirstGoesOn pace table until }
 {}
 
 /// Time never stands still: once each core has had its turns a tick is allowed, or the partition is

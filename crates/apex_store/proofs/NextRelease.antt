@@ -1,6 +1,5 @@
 -- The next release of a periodic process, as its law says it and as the code computes it.
-use Rattle.std.proofs.Common.{◌≡◌, ℕ, ◌≤◌, subst}
-use Rattle.std.proofs.lemmas.Option.{same_Some}
+use Rattle.std.proofs.Common.{◌≡◌, ℕ, ◌≤◌, refl}
 use Rattle.apex_machine.specs.processes.Periods.{next_release}
 use Rattle.apex_machine.specs.processes.Roster.{Roster, record_at}
 use Rattle.apex_machine.proofs.Periods.{next_later, next_least, next_once}
@@ -15,7 +14,10 @@ is_next now release period some =
     }
 
 pub next_is_least : (roster : Roster) (p : ℕ) → NextReleaseIsLeast roster p
-next_is_least roster p period t some periodic next =
+next_is_least roster p =
     let r = record_at roster p in
-    let is : next_release roster.now r.release period ≡ t = same_Some _ _ (rw periodic at next) in
-    subst (IsNextRelease roster.now r.release period) is (is_next roster.now r.release period some)
+    record {
+      periodic = λ period some is.
+          (next_release roster.now r.release period, rw is refl, is_next roster.now r.release period some);
+      aperiodic = λ none. rw none refl;
+    }

@@ -106,12 +106,15 @@ pub record IsNextRelease (now release period t : ℕ) : Type 0 where
   pub whole : (k : ℕ) × (1 ≤ k) × (t ≡ release + k * period)
   pub least : (k : ℕ) → 1 ≤ k → now < release + k * period → t ≤ release + k * period
 
--- if process p has a period, its next release is the next instant of its releases
-abbrev pub NextReleaseIsLeast : Roster → ℕ → Type 0
-NextReleaseIsLeast roster p =
-    (period t : ℕ) → 1 ≤ period → (record_at roster p).attributes.period ≡ Some period
-    → release_after roster.now (record_at roster p) ≡ Some t
-    → IsNextRelease roster.now (record_at roster p).release period t
+-- if process p has a period, it has a next release, the next instant of its releases; without a
+-- period it has none
+pub record NextReleaseIsLeast (roster : Roster) (p : ℕ) : Type 0 where
+  pub periodic : (period : ℕ) → 1 ≤ period
+      → (record_at roster p).attributes.period ≡ Some period
+      → (t : ℕ) × (release_after roster.now (record_at roster p) ≡ Some t)
+      × IsNextRelease roster.now (record_at roster p).release period t
+  pub aperiodic : (record_at roster p).attributes.period ≡ None
+      → release_after roster.now (record_at roster p) ≡ None
 
 -- no call of a store gives two of its processes the same stamp
 pub record StampsStayDistinct (roster : Roster) : Type 0 where

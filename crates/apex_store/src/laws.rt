@@ -68,8 +68,8 @@ pub fn first_missed_is_lowest<S: Store>(store: &S)
     ensures { laws.FirstMissedIsLowest (S.roster store.now) }
 {}
 
-/// The next release of a periodic process is the least instant above now that is one or more whole
-/// periods after its last release.
+/// A periodic process has a next release: the least instant above now that is one or more whole
+/// periods after its last release. A process without a period has none.
 pub fn next_release_is_least<S: Store>(store: &S, process: ProcessId)
     ensures { laws.NextReleaseIsLeast (S.roster store.now) process }
 {}
