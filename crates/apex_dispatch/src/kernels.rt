@@ -9,7 +9,7 @@ ghost use Rattle.apex_machine.specs.text.Listing.{listing, listing_of};
 ghost use Rattle.apex_machine.specs.Machine.{opening, accept, turn, tick, run, replay, events_of, situation_of};
 ghost use Rattle.apex_machine.specs.table.Table.{IsLawful};
 ghost use Rattle.apex_machine.specs.processes.Distinct.{HasDistinctStamps};
-ghost use Rattle.apex_history.specs.Counted.{inner_of, failures_of, CountsFailure, AppendsBeginning};
+ghost use Rattle.apex_history.specs.Counted.{inner_of, failures_of, CountsFailure, AppendsBeginning, IsOfWrite};
 ghost use Rattle.apex_machine.specs.Events.{IsWithin};
 ghost use Rattle.apex_dispatch.specs.Kernel.{kernel_in};
 ghost use Rattle.apex_dispatch.specs.Situations.{situation_in};
@@ -267,6 +267,7 @@ impl<S: Store> Kernel<S> {
             (listing self.now.table self.now.machine)) }
         ensures empty { page.new ≡ [] }
         ensures counted { CountsFailure result (failures_of writer.old) (failures_of writer.new) }
+        ensures failed { IfErr result (IsOfWrite W.accepts (inner_of writer.new)) }
     {
         self.listing().print(page, writer)
     }
@@ -285,6 +286,7 @@ impl<S: Store> Kernel<S> {
             (lines_of self.now.table self.now.machine.history)) }
         ensures empty { page.new ≡ [] }
         ensures counted { CountsFailure result (failures_of writer.old) (failures_of writer.new) }
+        ensures failed { IfErr result (IsOfWrite W.accepts (inner_of writer.new)) }
     {
         self.holds();
         print_history(&self.table, self.entries(), page, writer)

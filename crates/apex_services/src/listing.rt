@@ -1,10 +1,10 @@
 //! The status listing of a partition, section by section.
-ghost use Rattle.std.specs.Prelude.{◌≡◌, ◌<◌, ◌++◌, [], length, OnOk, OnErr};
+ghost use Rattle.std.specs.Prelude.{◌≡◌, ◌<◌, ◌++◌, [], length, IfErr, OnOk, OnErr};
 ghost use Rattle.std.specs.Io.KnownBytes.{Appends};
 ghost use Rattle.apex_machine.specs.declared.records.Queue.TheVariants as queues;
 ghost use Rattle.apex_machine.specs.processes.Owners.{owner};
 ghost use Rattle.apex_machine.specs.text.Listing.{listing_of, waiters, owned_depth, core_listing, process_listing, semaphore_listing, buffer_listing, blackboard_listing, event_flag_listing, mutex_listing};
-ghost use Rattle.apex_history.specs.Counted.{inner_of, failures_of, CountsFailure, AppendsBeginning};
+ghost use Rattle.apex_history.specs.Counted.{inner_of, failures_of, CountsFailure, AppendsBeginning, IsOfWrite};
 ghost use Rattle.apex_history.specs.Page.{Passes};
 ghost use Rattle.apex_history.specs.StatusRows.{row_text};
 ghost use Rattle.apex_services.specs.Sections.{Tells, thing_count, thing_text, section_text, waiting_at};
@@ -313,6 +313,7 @@ impl<'a, S: Store> Listing<'a, S> {
             (AppendsBeginning (W.contents (inner_of writer.old)) (W.contents (inner_of writer.new))
             (page.old ++ thing_text self.now section place)) }
         ensures counted { CountsFailure result (failures_of writer.old) (failures_of writer.new) }
+        ensures failed { IfErr result (IsOfWrite W.accepts (inner_of writer.new)) }
     {
         let waiting = self.waiting(section, place);
         match self.row(section, place, &waiting) {
@@ -336,6 +337,7 @@ impl<'a, S: Store> Listing<'a, S> {
             (AppendsBeginning (W.contents (inner_of writer.old)) (W.contents (inner_of writer.new))
             (page.old ++ section_text self.now section)) }
         ensures counted { CountsFailure result (failures_of writer.old) (failures_of writer.new) }
+        ensures failed { IfErr result (IsOfWrite W.accepts (inner_of writer.new)) }
     {
         for place in 0..self.count(section) {
             self.gather(section, place, page, writer)?;
@@ -356,6 +358,7 @@ impl<'a, S: Store> Listing<'a, S> {
             (listing_of self.now.table self.now.roster self.now.objects self.now.entries)) }
         ensures empty { page.new ≡ [] }
         ensures counted { CountsFailure result (failures_of writer.old) (failures_of writer.new) }
+        ensures failed { IfErr result (IsOfWrite W.accepts (inner_of writer.new)) }
     {
         page.clear();
         for section in SECTIONS {
