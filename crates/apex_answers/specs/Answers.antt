@@ -6,7 +6,7 @@ use Rattle.apex_machine.specs.Deeds.{Deed}
 use Rattle.apex_machine.specs.Machine.{entry_of, opening, run}
 use Rattle.apex_machine.specs.Situations.{deed as deed_of, maker}
 use Rattle.apex_pace.specs.Pace.{paced_opening, paced_run}
-use Rattle.apex_search.specs.Answers.{IsRoomUsedUp, IsShortestSchedule, NoSchedule, NoScheduleWithin, schedule_of}
+use Rattle.apex_search.specs.Answers.{HasStates, IsRoomUsedUp, IsShortestSchedule, NoSchedule, NoScheduleWithin, schedule_of}
 use Rattle.apex_search.specs.Facts.{has_fact}
 use Rattle.apex_search.specs.Steps.{Searched}
 use Rattle.apex_types.specs.declared.entries.Entry.{Entry}
@@ -46,8 +46,9 @@ pub data Says (system : Searched) (room : ℕ) : List ℕ → SearchEnd → Type
   found : (path : List ℕ) (entry : Entry) → IsShortestSchedule system path
       → length path ≤ system.table.limit → EndsInFact system (schedule_of system path) entry
       → Says system room (found_text (schedule_of system path) (line_of system.table entry)) finds
-  -- no schedule leads to the fact; the number of states says nothing of schedules
-  none : (states : ℕ) → NoSchedule system → Says system room (never_text states) never
+  -- no schedule leads to the fact, and there are this many states
+  none : (states : ℕ) → NoSchedule system × HasStates system states
+      → Says system room (never_text states) never
   -- no schedule of at most this many events does, and the room for states is used up
   full : (depth : ℕ) → NoScheduleWithin system depth → IsRoomUsedUp system room depth
       → Says system room (within_text depth ++ states_text room) (is_full room)

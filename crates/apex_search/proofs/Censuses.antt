@@ -16,7 +16,7 @@ use Rattle.apex_machine.specs.Deeds.{Deed}
 use Rattle.apex_machine.specs.Situations.{deed}
 use Rattle.apex_pace.specs.Pace.{Paced}
 use Rattle.apex_search.specs.Answers.{IsRoomUsedUp, IsShortestSchedule, LeadsToFact, schedule_of}
-use Rattle.apex_search.specs.Census.{AreFindings, EndSays, IsCensus, IsFinding, IsNoLater, IsOneOf, IsSearchOf, alone, asking, facts_of, without}
+use Rattle.apex_search.specs.Census.{AreFindings, EndSays, EndSaysOfOne, IsCensus, IsFinding, IsNoLater, IsOneOf, IsSearchOf, alone, asking, facts_of, without}
 use Rattle.apex_questions.specs.Facts.{is_code, is_fact}
 use Rattle.apex_search.specs.Facts.{Shown, has_fact, has_one, shown_of}
 use Rattle.apex_recall.specs.Restored.{paced_from}
@@ -211,8 +211,8 @@ module _ (system : Searched) where
   only fact asked other (inr none) = absurd none
 
   -- what an end says of all facts it says of each
-  pub end_says : (room : ℕ) (end : End) → EndSays system room end → (fact : Fact) → IsOneOf fact question.facts → EndSays (alone system fact) room end
-  end_says room (Closed states) says fact asked = λ events leads. says events (wider_facts (fact ∷ []) (only fact asked) events leads)
+  pub end_says : (room : ℕ) (end : End) → EndSays system room end → (fact : Fact) → IsOneOf fact question.facts → EndSaysOfOne (alone system fact) room end
+  end_says room (Closed states) says fact asked = λ events leads. says.0 events (wider_facts (fact ∷ []) (only fact asked) events leads)
   end_says room (Full depth) says fact asked = (
     λ events short leads. says.0 events short (wider_facts (fact ∷ []) (only fact asked) events leads),
     used_up_for_fewer (fact ∷ []) (only fact asked) room depth says.1,
@@ -386,7 +386,7 @@ counting_ends system now room search found census so_far same is says = record {
   others = λ fact one.
       let asked : IsOneOf fact now.question.facts = subst (λ (facts : List Fact). IsOneOf fact facts) is one in (
         so_far.within fact asked,
-        subst (λ (s : Searched). EndSays (alone s fact) room census.end) so_far.same (end_says now room census.end here fact asked),
+        subst (λ (s : Searched). EndSaysOfOne (alone s fact) room census.end) so_far.same (end_says now room census.end here fact asked),
       );
   whole = λ fact one.
       subst (λ (findings : List Finding). IsOneOf fact (facts_of findings) ⊎ IsOneOf fact census.others) (sym same) (subst (λ (facts : List Fact). IsOneOf fact (facts_of found) ⊎ IsOneOf fact facts) (sym is) (so_far.whole fact one));

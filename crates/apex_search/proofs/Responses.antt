@@ -20,7 +20,7 @@ use Rattle.apex_machine.specs.processes.Roster.{Roster, record_at}
 use Rattle.apex_pace.specs.Laws.{IsPace}
 use Rattle.apex_pace.specs.Pace.{KeepsPace, Paced, paced_opening, paced_run}
 use Rattle.apex_recall.specs.Laws.{FormsReach}
-use Rattle.apex_search.specs.Answers.{IsRoomUsedUp, IsShortestSchedule, LeadsToFact, NoSchedule, NoScheduleWithin, schedule_of}
+use Rattle.apex_search.specs.Answers.{HasStates, IsRoomUsedUp, IsShortestSchedule, LeadsToFact, NoSchedule, NoScheduleWithin, schedule_of}
 use Rattle.apex_search.specs.Census.{IsSearchOf}
 use Rattle.apex_search.specs.Facts.{Shown, has_fact, has_one, is_age, is_blocked, is_periodic_wait, shown, shown_of}
 use Rattle.apex_forms.specs.Forms.{canonical_paced}
@@ -477,8 +477,9 @@ module _ (system now : Searched) (p n : ℕ) (same : now ≡ responding system p
   pub asks : (path : List ℕ) → IsShortestSchedule now path → (least : ℕ) × LeadsToFact (responding now p least) (schedule_of now path)
   asks path shortest = (n, subst (λ (s : Searched). LeadsToFact s (schedule_of now path)) again shortest.leads)
 
-  pub now_below : NoSchedule now → AllBelow system p n
-  now_below none = all_below system p n (subst NoSchedule same none)
+  pub now_below : (states : ℕ) → NoSchedule now × HasStates now states
+      → AllBelow system p n × HasStates (responding system p n) states
+  now_below states says = (all_below system p n (subst NoSchedule same says.0), subst (λ (s : Searched). HasStates s states) same says.1)
 
   pub now_full : (depth room : ℕ) → NoScheduleWithin now depth × IsRoomUsedUp now room depth
       → AllBelowWithin system p n depth × IsRoomUsedUp (responding system p n) room depth

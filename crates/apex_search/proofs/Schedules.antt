@@ -327,6 +327,6 @@ module _ (system : Searched) (Here : Paced → Type 0) (stand : Stand system.pac
         many = found.many;
         shortest = λ other leads. let has = found_in other leads in le_trans (shortest has.path has.hit) has.short;
       }
-  says_of_schedules room (Closed states) says = λ events leads. let has = found_in events leads in says.0 has.path has.hit
+  says_of_schedules room (Closed states) says = (λ events leads. let has = found_in events leads in says.0 has.path has.hit, says.1)
   says_of_schedules room (Full depth) says =
       (λ events short leads. let has = found_in events leads in says.0 has.path (le_trans has.short short) has.hit, says.1)

@@ -1,6 +1,6 @@
 -- What an answer of a search says of the schedules of a pace.
 use Rattle.std.specs.Prelude.{◌≡◌, ℕ, ◌+◌, ◌≤◌, true, List, [], ◌∷◌, ◌++◌, length, Option, None, Some}
-use Rattle.apex_explore.specs.Paths.{ReachesWithin}
+use Rattle.apex_explore.specs.Paths.{ReachesExactly, ReachesWithin}
 use Rattle.apex_explore.specs.declared.answers.Answer.{Answer}
 use Rattle.apex_explore.specs.declared.answers.Answer.TheVariants.{Found, Closed, Full}
 use Rattle.apex_machine.specs.Situations.{deed}
@@ -57,10 +57,13 @@ abbrev pub IsRoomUsedUp : Searched → ℕ → ℕ → Type 0
 IsRoomUsedUp system room depth =
     ReachesWithin (makes system) (search_start system) (depth + 1) (room + 1)
 
--- the statement of an answer of a search with room for this many states; the number of states that
--- were reached says nothing of schedules
+-- the choices lead to exactly this many states
+abbrev pub HasStates : Searched → ℕ → Type 0
+HasStates system states = ReachesExactly (makes system) (search_start system) states
+
+-- the statement of an answer of a search with room for this many states
 abbrev pub SaysOfSchedules : Searched → ℕ → Answer → Type 0
 SaysOfSchedules system room (Found path) = IsShortestSchedule system path.items
-SaysOfSchedules system room (Closed states) = NoSchedule system
+SaysOfSchedules system room (Closed states) = NoSchedule system × HasStates system states
 SaysOfSchedules system room (Full depth) =
     NoScheduleWithin system depth × IsRoomUsedUp system room depth

@@ -6,7 +6,7 @@ use Rattle.apex_explore.specs.Searches.{IsOver, IsSearched}
 use Rattle.apex_explore.specs.declared.answers.Answer.{Answer}
 use Rattle.apex_explore.specs.declared.answers.Answer.TheVariants.{Found}
 use Rattle.apex_explore.specs.declared.searches.Search.{Search}
-use Rattle.apex_search.specs.Answers.{IsRoomUsedUp, IsShortestSchedule, NoSchedule, NoScheduleWithin}
+use Rattle.apex_search.specs.Answers.{HasStates, IsRoomUsedUp, IsShortestSchedule, NoSchedule, NoScheduleWithin}
 use Rattle.apex_questions.specs.Facts.{is_fact}
 use Rattle.apex_recall.specs.Formed.{IsForm}
 use Rattle.apex_search.specs.Steps.{IsWorkplace, Searched, makes, search_start}
@@ -55,9 +55,15 @@ facts_of (finding ∷ others) = finding.fact ∷ facts_of others
 abbrev pub IsNoLater : Finding → Finding → Type 0
 IsNoLater one other = length one.path.items ≤ length other.path.items
 
--- what the end of a search with room for this many states says of the facts that were not found
+-- what the end of a search with room for this many states says of a fact that was not found
+abbrev pub EndSaysOfOne : Searched → ℕ → End → Type 0
+EndSaysOfOne system room (ends.Closed states) = NoSchedule system
+EndSaysOfOne system room (ends.Full depth) =
+    NoScheduleWithin system depth × IsRoomUsedUp system room depth
+
+-- what it says of all of them together: how many states there are, too, if it has seen them all
 abbrev pub EndSays : Searched → ℕ → End → Type 0
-EndSays system room (ends.Closed states) = NoSchedule system
+EndSays system room (ends.Closed states) = NoSchedule system × HasStates system states
 EndSays system room (ends.Full depth) =
     NoScheduleWithin system depth × IsRoomUsedUp system room depth
 
@@ -71,7 +77,7 @@ pub record IsCensus (system : Searched) (room : ℕ) (census : Census) : Type 0 
   pub once : AllPairs (λ one other. one.fact ≢ other.fact) census.found.items
   pub left : EndSays (asking system census.others) room census.end
   pub others : (fact : Fact) → IsOneOf fact census.others
-      → IsOneOf fact system.question.facts × EndSays (alone system fact) room census.end
+      → IsOneOf fact system.question.facts × EndSaysOfOne (alone system fact) room census.end
   pub whole : (fact : Fact) → IsOneOf fact system.question.facts
       → IsOneOf fact (facts_of census.found.items) ⊎ IsOneOf fact census.others
   pub apart : (fact : Fact) → IsOneOf fact (facts_of census.found.items)

@@ -7,7 +7,7 @@ use Rattle.apex_machine.specs.Situations.{deed}
 use Rattle.apex_machine.specs.processes.Periods.{IsReleased}
 use Rattle.apex_machine.specs.processes.Roster.{Roster, record_at}
 use Rattle.apex_pace.specs.Pace.{KeepsPace, Paced, paced_opening, paced_run}
-use Rattle.apex_search.specs.Answers.{IsRoomUsedUp, schedule_of}
+use Rattle.apex_search.specs.Answers.{HasStates, IsRoomUsedUp, schedule_of}
 use Rattle.apex_search.specs.Census.{IsSearchOf}
 use Rattle.apex_search.specs.Facts.{Shown, shown_of}
 use Rattle.apex_forms.specs.Forms.{canonical_paced}
@@ -109,6 +109,7 @@ responding system p ticks = record system {
 abbrev pub IsWorst : Searched → ℕ → ℕ → Worst → Type 0
 IsWorst system p room (Greatest found states) =
     ForSome found (IsSlowest system p) × AllBelow system p (above found)
+    × HasStates (responding system p (above found)) states
 IsWorst system p room (Overrun schedule period) = IsOverrun system p period schedule.items
 IsWorst system p room (Full found depth) =
     ForSome found (IsSlowest system p) × AllBelowWithin system p (above found) depth
@@ -134,7 +135,8 @@ IsRound system now p least room search (rounds.Slower slowest) =
     IsSlower system now p least search slowest
 IsRound system now p least room search (rounds.Overrun schedule period) =
     IsOverrun system p period schedule.items
-IsRound system now p least room search (rounds.Closed states) = AllBelow system p least
+IsRound system now p least room search (rounds.Closed states) =
+    AllBelow system p least × HasStates (responding system p least) states
 IsRound system now p least room search (rounds.Full depth) =
     AllBelowWithin system p least depth × IsRoomUsedUp (responding system p least) room depth
 IsRound system now p least room search (rounds.Beyond limit) =

@@ -1,7 +1,7 @@
 -- A greater response is found, and the end.
 use Rattle.std.proofs.Common.{ℕ, ◌∙◌, arith, subst}
 use Rattle.apex_explore.specs.Searches.{room_of}
-use Rattle.apex_search.specs.Answers.{IsRoomUsedUp}
+use Rattle.apex_search.specs.Answers.{HasStates, IsRoomUsedUp}
 use Rattle.apex_search.specs.Worst.{AllBelow, AllBelowWithin, HasResponseBeyond, IsSlower, responding}
 use Rattle.apex_search.proofs.Responses.{again, rising_begins, rising_more}
 use Rattle.apex_search.proofs.systems.TableSystem.greatest_response.Goals as goal
@@ -43,7 +43,11 @@ returns-in-Overrun g c system same = rw c.in-Overrun.is at (c.in_ok-slowest.ensu
 pub returns-in-Closed : goal.returns-in-Closed
 returns-in-Closed g c system same =
     let rising = c.loop-found.invariant system same in
-    (rising.best, subst (AllBelow system c.args.process) rising.is (rw c.in-Closed.is at (c.in_ok-slowest.ensures.says system rising.same)))
+    let says = rw c.in-Closed.is at (c.in_ok-slowest.ensures.says system rising.same) in (
+      rising.best,
+      subst (AllBelow system c.args.process) rising.is says.0,
+      subst (λ (n : ℕ). HasStates (responding system c.args.process n) c.in-Closed.states) rising.is says.1,
+    )
 
 pub returns-in-Full : goal.returns-in-Full
 returns-in-Full g c system same =

@@ -8,7 +8,7 @@ use Rattle.apex_search.proofs.systems.TableSystem.next_response.Goals as goal
 
 pub returns-in-Closed-clause-says : goal.returns-in-Closed-clause-says
 returns-in-Closed-clause-says g c system same =
-    now_below system c.args.self.now c.args.process c.args.least same (rw c.in-Closed.is at c.in_ok-path.ensures.says)
+    now_below system c.args.self.now c.args.process c.args.least same _ (rw c.in-Closed.is at c.in_ok-path.ensures.says)
 
 pub returns-in-Full-clause-says : goal.returns-in-Full-clause-says
 returns-in-Full-clause-says g c system same =
