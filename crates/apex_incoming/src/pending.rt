@@ -1,5 +1,5 @@
 //! The bytes that were read ahead of the line that is looked at, in a buffer of fixed size.
-ghost use Rattle.std.specs.Prelude.{◌≡◌, ◌+◌, ◌*◌, ◌≤◌, ◌<◌, length, drop, IfOk, IfSome, None, OnOk};
+ghost use Rattle.std.specs.Prelude.{◌≡◌, ◌+◌, ◌*◌, ◌≤◌, ◌<◌, length, drop, IfOk, IfSome, None, OnErr, OnOk};
 ghost use Rattle.std.specs.Io.KnownBytes.{IsAtEnd, Keeps, prepend_known};
 ghost use Rattle.apex_types.specs.declared.limits.TheConstants.{MOST_LINE};
 ghost use Rattle.apex_history.specs.Counted.{inner_of, failures_of, reads_left_of, CountsFailure};
@@ -122,9 +122,9 @@ impl Pending {
     /// Reads once, up to [`READ_ROOM`] bytes, and says how many.
     fn fill<R: Source>(&mut self, reader: &mut Counted<R>) -> Result<usize>
         requires { length self.old ≤ MOST_LINE }
-        ensures kept { OnOk result
-            (Keeps (prepend_known self.old (R.remaining (inner_of reader.old)))
-            (prepend_known self.new (R.remaining (inner_of reader.new)))) }
+        ensures kept { Keeps (prepend_known self.old (R.remaining (inner_of reader.old)))
+            (prepend_known self.new (R.remaining (inner_of reader.new))) }
+        ensures failed { OnErr result (self.new ≡ self.old) }
         ensures more { IfOk result (λ count. length self.new ≡ length self.old + count) }
         ensures end { IfOk result (λ count. count ≡ 0
             → IsAtEnd (R.remaining (inner_of reader.new)) × (self.new ≡ self.old)) }
@@ -146,9 +146,8 @@ impl Pending {
     /// read ahead.
     #[inline(never)]
     fn next_far<R: Source>(&mut self, reader: &mut Counted<R>) -> Result<Next>
-        ensures kept { OnOk result
-            (Keeps (prepend_known self.old (R.remaining (inner_of reader.old)))
-            (prepend_known self.new (R.remaining (inner_of reader.new)))) }
+        ensures kept { Keeps (prepend_known self.old (R.remaining (inner_of reader.old)))
+            (prepend_known self.new (R.remaining (inner_of reader.new))) }
         ensures comes { IfOk result
             (λ next. Comes next self.new (R.remaining (inner_of reader.new))) }
         ensures counted { CountsFailure result (failures_of reader.old) (failures_of reader.new) }
@@ -176,9 +175,8 @@ impl Pending {
     // Inlined: a near line is found without a call.
     #[inline(always)]
     pub fn next<R: Source>(&mut self, reader: &mut Counted<R>) -> Result<Next>
-        ensures kept { OnOk result
-            (Keeps (prepend_known self.old (R.remaining (inner_of reader.old)))
-            (prepend_known self.new (R.remaining (inner_of reader.new)))) }
+        ensures kept { Keeps (prepend_known self.old (R.remaining (inner_of reader.old)))
+            (prepend_known self.new (R.remaining (inner_of reader.new))) }
         ensures comes { IfOk result
             (λ next. Comes next self.new (R.remaining (inner_of reader.new))) }
         ensures counted { CountsFailure result (failures_of reader.old) (failures_of reader.new) }

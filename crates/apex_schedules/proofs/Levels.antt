@@ -1,5 +1,5 @@
 -- The open groups of a reading, and what each piece does to them.
-use Rattle.std.proofs.Common.{◌≡◌, ◌∙◌, ℕ, ◌+◌, ◌-◌, ◌*◌, ◌<◌, ◌≤◌, refl, sym, ap, subst, arith, List, [], ◌∷◌, ◌++◌, Option, Some, None, Ok, Err, length, drop, take, append_assoc, length-append, length-drop}
+use Rattle.std.proofs.Common.{◌≡◌, ◌∙◌, ℕ, ◌+◌, ◌-◌, ◌*◌, ◌<◌, ◌≤◌, refl, sym, ap, subst, arith, List, [], ◌∷◌, ◌++◌, Option, Some, None, Ok, Err, length, drop, take, append_assoc, append-nil, length-append, length-drop}
 use Rattle.std.specs.Prelude.{IfSome, replicate, reverse}
 use Rattle.std.specs.List.{flat_map}
 use Rattle.std.proofs.lemmas.List.{drop-append-le, take-append-le, take-append-drop, length-take-le, reverse-append}
@@ -61,12 +61,27 @@ grows n items (outer ∷ more) (Some (piece.Close times) ∷ rest) many =
     let copies : List Item = flat_map (λ copy. copy) (replicate (times - 1) items) in
     grows n (outer ++ repeated times items) more rest (omega (arith, many, length-append outer (repeated times items), length-append items copies))
 
--- each open group can be closed behind the pieces
+-- each open group can be closed behind the pieces, and then there are as many items
+closes_all : (items : List Item) (outers : List (List Item))
+    → (rest : List (Option Piece)) × (xs : List Item) × (items_behind items outers rest ≡ Some xs) × (length xs ≡ length items + total outers)
+unfolding total
+closes_all items [] = ([], items, refl, omega arith)
+closes_all items (outer ∷ more) =
+    let (rest, xs, is, size) = closes_all (outer ++ repeated 1 items) more in
+    let same : length (outer ++ repeated 1 items) ≡ length outer + length items =
+    length-append outer (repeated 1 items) ∙ ap (λ n. length outer + length n) (append-nil items) in
+    (Some (piece.Close 1) ∷ rest, xs, is, omega (arith, size, same))
+
 closes : (items : List Item) (outers : List (List Item))
     → (rest : List (Option Piece)) × (xs : List Item) × (items_behind items outers rest ≡ Some xs)
-closes items [] = ([], items, refl)
-closes items (outer ∷ more) =
-    let (rest, xs, is) = closes (outer ++ repeated 1 items) more in (Some (piece.Close 1) ∷ rest, xs, is)
+closes items outers = let (rest, xs, is, size) = closes_all items outers in (rest, xs, is)
+
+-- behind a reading each open group can be closed, and then the items are not too many
+pub closes_within : (items : List Item) (starts : List ℕ) → IsReading items starts
+    → (rest : List (Option Piece)) × (xs : List Item) × (items_after items starts rest ≡ Some xs) × (length xs ≤ MOST_ENTRIES)
+closes_within items starts reading =
+    let (rest, xs, is, size) = closes_all (inner items (reverse starts)) (outer items (reverse starts)) in
+    (rest, xs, is, omega (arith, size, sizes items (reverse starts) reading.1, reading.0))
 
 -- each piece
 

@@ -1,6 +1,6 @@
 -- The text of a schedule with groups: its words, the items that these write out, and the place of a
 -- fault.
-use Rattle.std.specs.Prelude.{◌+◌, count_by, fold, ◌≡◌, All, ℕ, ◌-◌, ◌<◌, Bool, List, [], ◌∷◌, ◌++◌, Option, Some, None, IfSome, ◌==◌, ◌||◌, if◌then◌else◌, length, map, option_map, replicate}
+use Rattle.std.specs.Prelude.{◌+◌, count_by, fold, ◌≡◌, All, ℕ, ◌-◌, ◌<◌, ◌≤◌, Bool, false, true, not, ⊤, List, [], ◌∷◌, ◌++◌, Option, Some, None, IfSome, ◌==◌, ◌||◌, if◌then◌else◌, length, map, option_map, replicate}
 use Rattle.std.specs.List.{flat_map, onto_first}
 use Rattle.apex_types.specs.declared.limits.TheConstants.{MOST_ENTRIES}
 use Rattle.apex_schedules.specs.declared.schedule.Item.{Item}
@@ -45,6 +45,11 @@ piece_of (first ∷ rest) =
     else if first == 41 then option_map piece.Close (times_behind rest)
     else option_map piece.Single (item_of (first ∷ rest))
 
+-- a word is an item: it begins with no bracket
+abbrev pub is_item : List ℕ → Bool
+is_item [] = true
+is_item (first ∷ rest) = not (first == 40 || first == 41)
+
 -- items that come n times; n is 1 at least
 abbrev pub repeated : ℕ → List Item → List Item
 repeated times items = items ++ flat_map (λ copy. copy) (replicate (times - 1) items)
@@ -86,6 +91,31 @@ pub record BeginsWithTooMany (text : List ℕ) : Type 0 where
   pub rest : List (Option Piece)
   pub parts : pieces_of text ≡ first ++ rest
   pub too_much : IsTooMuch (λ others. items_behind [] [] (first ++ others))
+
+-- with some pieces behind them the pieces write out items that are not too many
+pub record CanBeFinished (pieces : List (Option Piece)) : Type 0 where
+  pub rest : List (Option Piece)
+  pub items : List Item
+  pub whole : items_behind [] [] (pieces ++ rest) ≡ Some items
+  pub few : length items ≤ MOST_ENTRIES
+
+-- behind the pieces no piece comes, though a group is open; or the one that comes next is ill-formed or
+-- closes no group, whatever pieces come behind it
+abbrev pub IsIllFormedBehind : List (Option Piece) → List (Option Piece) → Type 0
+IsIllFormedBehind pieces [] = items_behind [] [] pieces ≡ None
+IsIllFormedBehind pieces (next ∷ rest) =
+    (others : List (Option Piece)) → items_behind [] [] (pieces ++ next ∷ others) ≡ None
+
+-- behind the pieces one comes with which the items are too many, whatever pieces come behind it
+abbrev pub IsTooMuchBehind : List (Option Piece) → List (Option Piece) → Type 0
+IsTooMuchBehind pieces [] = ⊥
+IsTooMuchBehind pieces (next ∷ rest) =
+    IsTooMuch (λ others. items_behind [] [] (pieces ++ next ∷ others))
+
+-- a text does not begin with a space or a line feed
+abbrev pub BeginsWithNoGap : List ℕ → Type 0
+BeginsWithNoGap [] = ⊤
+BeginsWithNoGap (byte ∷ rest) = is_gap byte ≡ false
 
 -- in the text spaces alone end words: it has no line feed and no bracket
 abbrev pub HasNoGroups : List ℕ → Type 0

@@ -1,6 +1,6 @@
 -- A reading of a schedule with groups, by the items that it has written out and the number of items
 -- before each open group.
-use Rattle.std.specs.Prelude.{◌≡◌, ℕ, ◌+◌, ◌≤◌, ⊤, List, [], ◌∷◌, Option, None, Some, Result, Ok, Err, drop, length, reverse, take}
+use Rattle.std.specs.Prelude.{◌≡◌, ℕ, ◌+◌, ◌≤◌, ⊤, List, [], ◌∷◌, ◌++◌, Option, None, Some, Result, Ok, Err, count_by, drop, length, map, reverse, take}
 use Rattle.apex_types.specs.declared.limits.TheConstants.{MOST_ENTRIES}
 use Rattle.apex_schedules.specs.declared.groups.Place.{Place}
 use Rattle.apex_schedules.specs.declared.groups.Refusal.{Refusal}
@@ -9,7 +9,7 @@ use Rattle.apex_schedules.specs.declared.groups.ScheduleFault.{ScheduleFault}
 use Rattle.apex_schedules.specs.declared.groups.ScheduleFault.TheVariants as fault
 use Rattle.apex_schedules.specs.declared.pieces.Piece.{Piece}
 use Rattle.apex_schedules.specs.declared.schedule.Item.{Item}
-use Rattle.apex_schedules.specs.Groups.{BeginsWithTooMany, IsTooMuch, grouped_items_of, items_behind}
+use Rattle.apex_schedules.specs.Groups.{BeginsWithNoGap, BeginsWithTooMany, CanBeFinished, IsIllFormedBehind, IsTooMuch, IsTooMuchBehind, filled, grouped_items_of, is_item, items_behind, piece_of, pieces_of, words}
 
 -- the items of the innermost open group; the starts are those of the groups, innermost first
 abbrev pub inner : List Item → List ℕ → List Item
@@ -56,10 +56,29 @@ fault_at refusal.Memory place = fault.Memory
 abbrev pub IsWithin : List ℕ → Place → Type 0
 IsWithin text place = (place.byte ≤ length text) × (1 ≤ place.item) × (place.item ≤ place.byte + 1)
 
+-- the place is behind these words of the text: the next word begins there, or the text ends there;
+-- its item is the one after those among the words
+pub record IsBehind (before : List (List ℕ)) (text : List ℕ) (place : Place) : Type 0 where
+  pub within : IsWithin text place
+  pub words : filled (words text) ≡ before ++ filled (words (drop place.byte text))
+  pub begins : BeginsWithNoGap (drop place.byte text)
+  pub item : place.item ≡ count_by is_item before + 1
+
+-- the place is the first one at fault: the words before it can be finished to a schedule, and those
+-- from it on are at fault behind them
+pub record IsFirst (AreAtFault : List (Option Piece) → List (Option Piece) → Type 0)
+    (text : List ℕ) (place : Place) : Type 0 where
+  pub before : List (List ℕ)
+  pub behind : IsBehind before text place
+  pub finishes : CanBeFinished (map piece_of before)
+  pub fault : AreAtFault (map piece_of before) (pieces_of (drop place.byte text))
+
 -- the text has this fault
 abbrev pub IsFaultOf : List ℕ → ScheduleFault → Type 0
-IsFaultOf text (fault.IllFormed place) = (grouped_items_of text ≡ None) × IsWithin text place
-IsFaultOf text (fault.TooMany place) = BeginsWithTooMany text × IsWithin text place
+IsFaultOf text (fault.IllFormed place) =
+    (grouped_items_of text ≡ None) × IsFirst IsIllFormedBehind text place
+IsFaultOf text (fault.TooMany place) =
+    BeginsWithTooMany text × IsFirst IsTooMuchBehind text place
 IsFaultOf text fault.Memory = ⊤
 
 -- the text has these items, and they are not too many

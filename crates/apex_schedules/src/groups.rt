@@ -1,9 +1,9 @@
 //! The text of a schedule with groups, read as its items.
-ghost use Rattle.std.specs.Prelude.{◌≡◌, ◌≤◌, ◌++◌, [], IfErr, IfOk, OnOk, drop, length, replicate, take};
+ghost use Rattle.std.specs.Prelude.{◌≡◌, ◌≤◌, if◌then◌else◌, ◌++◌, [], IfErr, IfOk, OnOk, drop, length, replicate, take};
 ghost use Rattle.std.specs.List.{flat_map};
 ghost use Rattle.apex_schedules.specs.declared.groups.Refusal.TheVariants.{Memory};
 ghost use Rattle.apex_schedules.specs.declared.pieces.Piece.TheVariants.{Single, Open, Close};
-ghost use Rattle.apex_schedules.specs.Groups.{column_behind, line_behind};
+ghost use Rattle.apex_schedules.specs.Groups.{column_behind, is_item, line_behind};
 ghost use Rattle.apex_schedules.specs.Readings.{AreItemsOf, IsFaultOf, IsReading, IsTaken, fault_at};
 
 use crate::pieces::{Piece, cut_word, read_piece};
@@ -86,7 +86,8 @@ impl Refusal {
 
 /// The number of items that a word is: a bracket is none.
 fn items_in(word: &[u8]) -> usize
-    ensures { result ≤ 1 }
+    ensures value { result ≡ (if is_item word.now then 1 else 0) }
+    ensures most { result ≤ 1 }
 {
     match word {
         [b'(' | b')', ..] => 0,

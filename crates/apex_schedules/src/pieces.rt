@@ -1,7 +1,7 @@
 //! The words of a schedule with groups, and the pieces that they are.
-ghost use Rattle.std.specs.Prelude.{◌≡◌, ◌<◌, ◌≤◌, ◌∷◌, ◌||◌, ◌==◌, drop, length, take};
+ghost use Rattle.std.specs.Prelude.{◌≡◌, ◌-◌, ◌<◌, ◌≤◌, ◌∷◌, ◌||◌, ◌==◌, drop, length, take};
 ghost use Rattle.std.specs.List.{position, position_or_len};
-ghost use Rattle.apex_schedules.specs.Groups.{filled, is_boundary, is_gap, piece_of, times_behind, words};
+ghost use Rattle.apex_schedules.specs.Groups.{BeginsWithNoGap, filled, is_boundary, is_gap, piece_of, times_behind, words};
 
 use crate::schedule::{Item, read_item, read_positive};
 
@@ -67,6 +67,7 @@ fn is_gap(byte: u8) -> bool
 fn behind_gap(text: &[u8]) -> &[u8]
     ensures words { filled (words result.now) ≡ filled (words text.now) }
     ensures fits { length result.now ≤ length text.now }
+    ensures rest { result.now ≡ drop (length text.now - length result.now) text.now }
 {
     match text {
         [b' ' | b'\n', after @ ..] => after,
@@ -78,7 +79,9 @@ fn behind_gap(text: &[u8]) -> &[u8]
 pub(crate) fn cut_word(text: &[u8]) -> (&[u8], &[u8])
     requires { 0 < length text.now }
     ensures words { filled (words text.now) ≡ filled (result.0.now ∷ words result.1.now) }
+    ensures begins { 0 < length result.0.now → BeginsWithNoGap text.now }
     ensures shorter { length result.1.now < length text.now }
+    ensures rest { result.1.now ≡ drop (length text.now - length result.1.now) text.now }
 {
     let first = text[0];
     let after = &text[1..];

@@ -22,4 +22,6 @@ mod papers;
 #[cfg(test)]
 mod responses;
 #[cfg(test)]
+mod schedules;
+#[cfg(test)]
 mod searches;

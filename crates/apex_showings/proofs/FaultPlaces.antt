@@ -8,5 +8,5 @@ use Rattle.apex_showings.specs.declared.schedules.ScheduleReason.TheVariants.{Il
 
 -- it is in the text, or at its end
 pub within_text : (text : List ℕ) (reason : ScheduleReason) (place : Place) → IsFaultOf text (fault_at reason place) → place.byte ≤ length text
-within_text text IllFormed place (none, within) = within.0
-within_text text TooMany place (many, within) = within.0
+within_text text IllFormed place (none, first) = first.behind.within.0
+within_text text TooMany place (many, first) = first.behind.within.0

@@ -16,13 +16,20 @@ abbrev pub fault_at : ScheduleReason → Place → ScheduleFault
 fault_at IllFormed place = schedules.IllFormed place
 fault_at TooMany place = schedules.TooMany place
 
+-- the fault for this reason, at a place of a schedule's text
+abbrev pub bad_of : ScheduleReason → Place → List ℕ → BadSchedule
+bad_of reason place text = record {
+  reason = reason;
+  item = place.item;
+  line = line_behind (take place.byte text);
+  column = column_behind (take place.byte text);
+}
+
 -- a schedule's text has this fault: its place is that of the text's fault
 pub record IsBadIn (text : List ℕ) (bad : BadSchedule) : Type 0 where
   pub place : Place
   pub has : IsFaultOf text (fault_at bad.reason place)
-  pub item : bad.item ≡ place.item
-  pub line : bad.line ≡ line_behind (take place.byte text)
-  pub column : bad.column ≡ column_behind (take place.byte text)
+  pub is : bad ≡ bad_of bad.reason place text
 
 -- memory was refused, or a schedule's text has this fault
 abbrev pub IsFaultIn : List ℕ → ItemsFault → Type 0

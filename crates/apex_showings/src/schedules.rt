@@ -1,7 +1,7 @@
 //! The items of a schedule's text, and the fault of a text that is no schedule.
 ghost use Rattle.std.specs.Prelude.{◌≡◌, IfErr, IfOk};
 ghost use Rattle.apex_schedules.specs.Readings.{AreItemsOf, IsFaultOf};
-ghost use Rattle.apex_showings.specs.Schedules.{IsBadIn, IsFaultIn, fault_at};
+ghost use Rattle.apex_showings.specs.Schedules.{IsBadIn, IsFaultIn, bad_of, fault_at};
 
 use apex_schedules::{Item, Place, ScheduleFault, read_grouped};
 use std::alloc::Global;
@@ -41,7 +41,8 @@ pub enum ItemsFault {
 /// The fault of a schedule's text for this reason, at a place.
 fn bad_at(reason: ScheduleReason, place: Place, text: &[u8]) -> BadSchedule
     requires { IsFaultOf text.now (fault_at reason place) }
-    ensures { IsBadIn text.now result }
+    ensures value { result ≡ bad_of reason place text.now }
+    ensures fault { IsBadIn text.now result }
 {
     let (line, column) = place.line_and_column(text);
     BadSchedule {
