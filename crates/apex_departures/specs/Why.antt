@@ -15,7 +15,8 @@ situation_after table events = situation_of table (run table (opening table) eve
 pub record IsReasonBehind (table : Table) (before : List Event) (event : Event) (text : List ℕ) :
     Type 0 where
   pub reads : text ≡ reason_text table (reason_of table (situation_after table before) event)
-  pub deed : IsReasonOf (reason_of table (situation_after table before) event)
+  pub deed : IsReasonOf (situation_after table before) event
+      (reason_of table (situation_after table before) event)
       (deed table (situation_after table before) event)
 
 -- the event of this number, counted from 1, and the events before it

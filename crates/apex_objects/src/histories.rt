@@ -1,8 +1,8 @@
 //! The objects of a history, written to a writer.
-ghost use Rattle.std.specs.Prelude.{◌≡◌, [], All, OnErr, OnOk};
+ghost use Rattle.std.specs.Prelude.{◌≡◌, [], All, IfErr, OnErr, OnOk};
 ghost use Rattle.std.specs.Io.KnownBytes.{Appends};
 ghost use Rattle.apex_calls.specs.Lines.{IsPrintable};
-ghost use Rattle.apex_history.specs.Counted.{inner_of, failures_of, AppendsBeginning, CountsFailure};
+ghost use Rattle.apex_history.specs.Counted.{inner_of, failures_of, AppendsBeginning, CountsFailure, IsOfWrite};
 ghost use Rattle.apex_objects.specs.Entries.{objects_of};
 
 use crate::entries::put_entry_object;
@@ -32,6 +32,7 @@ pub fn print_history_objects<W: Sink>(
         (objects_of table.now entries.entry)) }
     ensures empty { lines.new.items ≡ [] }
     ensures counted { CountsFailure result (failures_of writer.old) (failures_of writer.new) }
+    ensures failed { IfErr result (IsOfWrite W.accepts (inner_of writer.new)) }
 {
     lines.clear();
     for entry in entries {

@@ -1,10 +1,10 @@
 //! The status listing of a partition as objects, section by section.
-ghost use Rattle.std.specs.Prelude.{◌≡◌, ◌+◌, ◌<◌, ◌≤◌, ◌++◌, [], length, OnErr, OnOk};
+ghost use Rattle.std.specs.Prelude.{◌≡◌, ◌+◌, ◌<◌, ◌≤◌, ◌++◌, [], length, IfErr, OnErr, OnOk};
 ghost use Rattle.std.specs.Io.KnownBytes.{Appends};
 ghost use Rattle.arrayvec.specs.ArrayVec.{array_vec_len};
 ghost use Rattle.apex_machine.specs.processes.Owners.{owner};
 ghost use Rattle.apex_machine.specs.text.Listing.{owned_depth};
-ghost use Rattle.apex_history.specs.Counted.{inner_of, failures_of, AppendsBeginning, CountsFailure};
+ghost use Rattle.apex_history.specs.Counted.{inner_of, failures_of, AppendsBeginning, CountsFailure, IsOfWrite};
 ghost use Rattle.apex_history.specs.Page.{Passes};
 ghost use Rattle.apex_objects.specs.Listing.{blackboard_listed, buffer_listed, core_listed, event_flag_listed, head_objects, listing_objects, listing_objects_of, mutex_listed, process_listed, semaphore_listed};
 ghost use Rattle.apex_objects.specs.Sections.{section_text, thing_count, thing_text};
@@ -282,6 +282,7 @@ impl<'a, S: Store> Listing<'a, S> {
             (line.old.items ++ section_text self.now section)) }
         ensures empty { OnErr result (line.new.items ≡ []) }
         ensures counted { CountsFailure result (failures_of writer.old) (failures_of writer.new) }
+        ensures failed { IfErr result (IsOfWrite W.accepts (inner_of writer.new)) }
     {
         for place in 0..self.count(section) {
             self.put(line, section, place);
@@ -300,6 +301,7 @@ impl<'a, S: Store> Listing<'a, S> {
             (listing_objects_of self.now.table self.now.roster self.now.objects self.now.entries)) }
         ensures empty { line.new.items ≡ [] }
         ensures counted { CountsFailure result (failures_of writer.old) (failures_of writer.new) }
+        ensures failed { IfErr result (IsOfWrite W.accepts (inner_of writer.new)) }
     {
         line.clear();
         for section in SECTIONS {
@@ -343,6 +345,7 @@ pub fn print_listing_objects<S: Store, W: Sink>(
         (listing_objects kernel.now.table kernel.now.machine)) }
     ensures empty { lines.new.items ≡ [] }
     ensures counted { CountsFailure result (failures_of writer.old) (failures_of writer.new) }
+    ensures failed { IfErr result (IsOfWrite W.accepts (inner_of writer.new)) }
 {
     listing_in(kernel).print(lines, writer)
 }

@@ -1,8 +1,8 @@
 //! Objects on their way to a writer.
-ghost use Rattle.std.specs.Prelude.{◌≡◌, ◌+◌, ◌≤◌, [], OnErr, OnOk};
+ghost use Rattle.std.specs.Prelude.{◌≡◌, ◌+◌, ◌≤◌, [], IfErr, OnErr, OnOk};
 ghost use Rattle.std.specs.Io.KnownBytes.{Appends};
 ghost use Rattle.arrayvec.specs.ArrayVec.{array_vec_len};
-ghost use Rattle.apex_history.specs.Counted.{inner_of, failures_of, AppendsBeginning, CountsFailure};
+ghost use Rattle.apex_history.specs.Counted.{inner_of, failures_of, AppendsBeginning, CountsFailure, IsOfWrite};
 ghost use Rattle.apex_history.specs.Page.{Passes};
 ghost use Rattle.apex_objects.specs.declared.lines.TheConstants.{MOST_OBJECT, OBJECTS_ROOM};
 
@@ -18,6 +18,7 @@ pub fn hand_on<W: Sink>(lines: &mut ObjectLines, writer: &mut Counted<W>) -> Res
         (W.contents (inner_of writer.new)) lines.old.items) }
     ensures empty { lines.new.items ≡ [] }
     ensures counted { CountsFailure result (failures_of writer.old) (failures_of writer.new) }
+    ensures failed { IfErr result (IsOfWrite W.accepts (inner_of writer.new)) }
 {
     let written = writer.write_all(lines.as_slice());
     lines.clear();
@@ -33,6 +34,7 @@ pub fn make_room<W: Sink>(lines: &mut ObjectLines, writer: &mut Counted<W>) -> R
     ensures room { array_vec_len lines.new + MOST_OBJECT ≤ OBJECTS_ROOM }
     ensures empty { OnErr result (lines.new.items ≡ []) }
     ensures counted { CountsFailure result (failures_of writer.old) (failures_of writer.new) }
+    ensures failed { IfErr result (IsOfWrite W.accepts (inner_of writer.new)) }
 {
     if lines.len() + MOST_OBJECT <= OBJECTS_ROOM {
         return Ok(());

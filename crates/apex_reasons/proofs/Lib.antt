@@ -1,4 +1,5 @@
 mod Decided
 mod Services
 mod Moved
+mod Caused
 mod Reasoned

@@ -6,5 +6,6 @@ pub mod Rows
 pub mod Effects
 pub mod Decisions
 pub mod Premises
+pub mod Causes
 pub mod Reasons
 pub mod Texts

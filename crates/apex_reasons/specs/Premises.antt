@@ -5,11 +5,12 @@ use Rattle.apex_machine.specs.processes.Dues.{HasTime}
 use Rattle.apex_machine.specs.processes.Roster.{Roster}
 use Rattle.apex_machine.specs.services.BlackboardServices.{BlackboardObject, blackboard_kind}
 use Rattle.apex_machine.specs.services.BufferServices.{BufferObject, buffer_kind}
+use Rattle.apex_machine.specs.services.EventFlagServices.{EventFlagObject, event_flag_kind}
 use Rattle.apex_machine.specs.services.SemaphoreServices.{SemaphoreObject, semaphore_kind}
 use Rattle.apex_machine.specs.table.Table.{Table, semaphore_config, buffer_config, blackboard_config}
 use Rattle.apex_laws.specs.Premises.{AreOf}
 
--- the semaphore, the buffer and the blackboard at a place of these lists
+-- the semaphore, the buffer, the blackboard and the event flag at a place of these lists
 abbrev pub semaphore_in : List SemaphoreObject → ℕ → SemaphoreObject
 semaphore_in semaphores s = slice_index_or semaphores s semaphore_kind.absent
 
@@ -18,6 +19,9 @@ buffer_in buffers b = slice_index_or buffers b buffer_kind.absent
 
 abbrev pub blackboard_in : List BlackboardObject → ℕ → BlackboardObject
 blackboard_in blackboards b = slice_index_or blackboards b blackboard_kind.absent
+
+abbrev pub event_flag_in : List EventFlagObject → ℕ → EventFlagObject
+event_flag_in event_flags e = slice_index_or event_flags e event_flag_kind.absent
 
 -- the processes and the objects are those of the table: there is a record and an object for each
 -- entry, with the limits that the table gives; and the time is one that a history reaches

@@ -1,6 +1,6 @@
 -- Why the machine makes the entry that it makes: the caller, its step, and the guard or the rule
 -- that decides the reply (this profile).
-use Rattle.std.specs.Prelude.{◌≡◌, ℕ, ◌+◌, Option, None, Some, nat_lt, if◌then◌else◌}
+use Rattle.std.specs.Prelude.{◌≡◌, ℕ, ◌+◌, Option, None, Some, IfSome, nat_lt, if◌then◌else◌}
 use Rattle.apex_types.specs.declared.calls.Call.TheVariants.{Caller as ToCaller, Work as ToWork}
 use Rattle.apex_types.specs.declared.calls.CallerCall.TheVariants.{StopSelf}
 use Rattle.apex_types.specs.declared.entries.Caller.TheVariants.{Process, Init, Nobody}
@@ -13,6 +13,7 @@ use Rattle.apex_machine.specs.processes.Roster.{Roster, record_at}
 use Rattle.apex_machine.specs.processes.Running.{chosen}
 use Rattle.apex_machine.specs.table.Table.{Table}
 use Rattle.apex_reasons.specs.Terms.{Call, Caller, Event, Mode, OpenWork}
+use Rattle.apex_reasons.specs.Causes.{CauseHolds, cause_of}
 use Rattle.apex_reasons.specs.Decisions.{Explains, rule_of}
 use Rattle.apex_reasons.specs.Effects.{effect_of_call}
 use Rattle.apex_reasons.specs.Guards.{first_holding}
@@ -88,8 +89,28 @@ reason_of table s (Turn core) =
     turn_reason table s core (s.works core) (due_call table s core)
 reason_of table s (Tick n) = without_caller (tick_rule s.roster n)
 
--- the reason is that of the deed: its caller, its call, and a rule for its reply
-pub record IsReasonOf (reason : Reason) (deed : Deed) : Type 0 where
+-- the place of the next step of a process in its script, and of the init list
+abbrev pub next_step : Situation → Caller → Option ℕ
+next_step s (Process p) = Some (record_at s.roster p).step
+next_step s Init = Some s.made
+next_step s Nobody = None
+
+-- the place of the step that the caller carries out in a turn; the end of work is no step
+abbrev pub step_in_turn : Situation → Option OpenWork → Caller → Option ℕ
+step_in_turn s (Some begun) caller = None
+step_in_turn s None caller = next_step s caller
+
+-- the same at an event
+abbrev pub step_at : Situation → Event → Caller → Option ℕ
+step_at s (Turn core) caller = step_in_turn s (s.works core) caller
+step_at s (Tick n) caller = None
+
+-- the reason is that of the event's deed in the situation: its caller, its call, the place of the
+-- caller's step, a rule for its reply, and a cause that holds, if the rule names one
+pub record IsReasonOf (s : Situation) (event : Event) (reason : Reason) (deed : Deed) : Type 0 where
   pub caller : reason.caller ≡ deed.caller
   pub call : reason.call ≡ deed.call
+  pub step : reason.step ≡ step_at s event reason.caller
   pub rule : Explains reason.rule deed.outcome.reply
+  pub cause : IfSome (cause_of reason.rule)
+      (CauseHolds s.roster s.objects reason.caller reason.call)

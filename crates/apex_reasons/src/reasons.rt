@@ -167,7 +167,8 @@ pub(crate) fn reason_for<S: Store>(table: &Table, situation: &Situation<S>, even
     requires all { AreOfTable table.now situation.now.roster situation.now.objects }
     requires event { IsWithin table.now.cores event }
     ensures value { result ≡ reasons.reason_of table.now (situation_in situation.now) event }
-    ensures deed { IsReasonOf result (deed table.now (situation_in situation.now) event) }
+    ensures deed { IsReasonOf (situation_in situation.now) event result
+        (deed table.now (situation_in situation.now) event) }
 {
     match event {
         Event::Turn(core) => turn_reason(table, situation, core),
@@ -186,8 +187,8 @@ pub fn reason_of<S: Store>(kernel: &Kernel<S>, event: Event) -> Reason
     requires { IsWithin kernel.now.table.cores event }
     ensures value { result ≡ reasons.reason_of kernel.now.table
         (situation_of kernel.now.table kernel.now.machine) event }
-    ensures deed { IsReasonOf result (deed kernel.now.table
-        (situation_of kernel.now.table kernel.now.machine) event) }
+    ensures deed { IsReasonOf (situation_of kernel.now.table kernel.now.machine) event result
+        (deed kernel.now.table (situation_of kernel.now.table kernel.now.machine) event) }
 {
     kernel.holds();
     reason_for(kernel.table(), kernel.situation(), event)
