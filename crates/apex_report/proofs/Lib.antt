@@ -11,3 +11,9 @@ pub mod ObjectBounds
 pub mod Bounds
 pub mod Printed
 pub mod Unbeaten
+pub mod OpenWork
+pub mod Holders
+pub mod Heirs
+pub mod Depths
+pub mod Transferred
+pub mod OwnerRuns

@@ -133,7 +133,7 @@ highest_more count history e =
     (IsStrictWeakOrder-flip (λ (first second : Level). is_higher second first) (IsStrictWeakOrder-by_number (λ (l : Level). l.count)))
     (along (level_by count) [] history) (level_at e (count (history ++ e ∷ [])) ∷ []))
 
-owner_more : (queue : Queue) (before later : List Entry) (e : Entry) (owner : Option Owner)
+pub owner_more : (queue : Queue) (before later : List Entry) (e : Entry) (owner : Option Owner)
     → owner_along queue before (later ++ e ∷ []) owner
     ≡ owner_after queue e (wakings (before ++ later) e) (owner_along queue before later owner)
 owner_more queue before [] e owner = rw (append-nil before) refl

@@ -1,9 +1,9 @@
 -- The figures of a core, each read off the history.
-use Rattle.std.specs.Prelude.{ℕ, ◌+◌, ◌*◌, ◌/◌, Bool, true, false, List, [], ◌∷◌, Option, None, Some, count_by, fold, sum_by, ◌==◌, ◌&&◌, not, if◌then◌else◌}
+use Rattle.std.specs.Prelude.{ℕ, ◌+◌, ◌*◌, ◌/◌, Bool, true, false, List, [], ◌∷◌, Option, None, Some, count_by, fold, is_some, sum_by, ◌==◌, ◌&&◌, not, if◌then◌else◌}
 use Rattle.std.specs.List.{sum}
 use Rattle.apex_types.specs.declared.calls.Call.TheVariants.{Work}
-use Rattle.apex_types.specs.declared.entries.Reply.TheVariants.{Advanced, Begun, Done, Idle, Lost}
-use Rattle.apex_machine.specs.Works.{is_turn_of}
+use Rattle.apex_types.specs.declared.entries.Reply.TheVariants.{Advanced, Done, Idle, Lost}
+use Rattle.apex_machine.specs.Works.{is_turn_of, work_begun}
 use Rattle.apex_machine.specs.services.Calls.{is_work}
 use Rattle.apex_report.specs.Along.{along}
 use Rattle.apex_report.specs.Terms.{Call, CoreFigures, Entry, Reply}
@@ -57,10 +57,9 @@ units _ = 0
 abbrev pub units_if : (ℕ → Entry → Bool) → ℕ → Entry → ℕ
 units_if passes core e = if passes core e then units e.call else 0
 
--- the turn began work
-abbrev pub is_begun : Reply → Bool
-is_begun Begun = true
-is_begun _ = false
+-- the turn began work of a process
+abbrev pub is_begun : Entry → Bool
+is_begun e = is_some (work_begun e.process e.call e.reply)
 
 -- the ticks by which time goes on with the reply
 abbrev pub ticks_in : Reply → ℕ
@@ -70,7 +69,7 @@ ticks_in _ = 0
 -- whether work is open on the core after an entry, by whether it was before: a turn of the core ends
 -- the work that was open, and may begin some
 abbrev pub is_working_after : ℕ → Bool → Entry → Bool
-is_working_after core before e = if is_turn core e then is_begun e.reply else before
+is_working_after core before e = if is_turn core e then is_begun e else before
 
 -- work is open on the core: its last turn began some
 abbrev pub is_working : ℕ → List Entry → Bool

@@ -20,3 +20,4 @@ pub mod Members
 pub mod Rows
 pub mod Texts
 pub mod Json
+pub mod Laws

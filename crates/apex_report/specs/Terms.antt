@@ -4,6 +4,7 @@ pub use Rattle.apex_json.specs.declared.Form.{Form}
 pub use Rattle.apex_types.specs.declared.calls.Call.{Call}
 pub use Rattle.apex_types.specs.declared.entries.Caller.{Caller}
 pub use Rattle.apex_types.specs.declared.entries.Entry.{Entry}
+pub use Rattle.apex_types.specs.declared.entries.Event.{Event}
 pub use Rattle.apex_types.specs.declared.entries.Notice.{Notice}
 pub use Rattle.apex_types.specs.declared.entries.Reply.{Reply}
 pub use Rattle.apex_types.specs.declared.entries.ReturnCode.{ReturnCode}

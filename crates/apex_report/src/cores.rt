@@ -4,7 +4,7 @@ ghost use Rattle.apex_types.specs.declared.limits.TheConstants.{MOST_ENTRIES, MO
 ghost use Rattle.apex_report.specs.Cores.{busy_percent, core_figures, is_begun, is_done, is_idle, is_lost, is_service, is_turn, percent_of, ticks_in, units};
 ghost use Rattle.apex_report.specs.Steps.{core_after, core_with_ticks, IsCoreUpTo};
 
-use apex_types::{Call, CoreId, LentEntry, Reply, Who};
+use apex_types::{Call, Caller, CoreId, LentEntry, Reply, Who};
 
 /// The figures of a core over a history (this profile).
 #[derive(Clone, Copy)]
@@ -62,11 +62,14 @@ pub(crate) fn units(call: &Option<Call>) -> u32
     }
 }
 
-/// The turn began work.
-fn is_begun(reply: &Reply) -> bool
-    ensures { result ≡ is_begun reply.now }
+/// The turn began work of a process.
+fn is_begun(entry: &LentEntry<'_>) -> bool
+    ensures { result ≡ is_begun entry.entry.now }
 {
-    matches!(reply, Reply::Begun)
+    match (entry.process, entry.call, entry.reply) {
+        (Caller::Process(_), Some(Call::Work(_)), Reply::Begun) => true,
+        _ => false,
+    }
 }
 
 /// The ticks by which time goes on with the reply.
@@ -141,7 +144,7 @@ impl CoreFigures {
         if !is_turn(self.core, entry) {
             return;
         }
-        self.is_working = is_begun(&entry.reply);
+        self.is_working = is_begun(entry);
         self.turns += 1;
         self.calls += u32::from(is_service(&entry.call));
         match entry.reply {
