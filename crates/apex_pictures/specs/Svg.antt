@@ -1,6 +1,6 @@
 -- A picture as SVG. The places of rows and columns are the frame's; their contents are the
 -- columns'.
-use Rattle.std.specs.Prelude.{ℕ, ◌+◌, ◌-◌, ◌≤◌, Bool, false, true, List, [], ◌∷◌, ◌++◌, ◌==◌, ◌&&◌, ◌||◌, nat_le, nat_lt, length, Option, None, Some, codes, count_by, decimal, flat_map, slice_index_or, take, if◌then◌else◌}
+use Rattle.std.specs.Prelude.{ℕ, ◌≡◌, ◌+◌, ◌-◌, ◌*◌, ◌<◌, ◌≤◌, max, min, Bool, false, true, List, [], ◌∷◌, ◌++◌, ◌==◌, ◌&&◌, ◌||◌, nat_le, nat_lt, length, Option, None, Some, codes, count_by, decimal, flat_map, slice_index_or, take, if◌then◌else◌}
 use Rattle.apex_machine.specs.text.Texts.{id_text, process_name}
 use Rattle.apex_calls.specs.Lines.{asked_text, line_of, reply_text}
 use Rattle.apex_machine.specs.text.Listing.{texts_of}
@@ -22,7 +22,10 @@ use Rattle.apex_moments.specs.Words.{notice_word}
 use Rattle.apex_pictures.specs.declared.columns.Columns.{Columns}
 use Rattle.apex_pictures.specs.declared.excerpts.Excerpt.{Excerpt}
 use Rattle.apex_pictures.specs.declared.frames.Frame.{Frame}
+use Rattle.apex_pictures.specs.declared.frames.TheConstants.{LETTER}
 use Rattle.apex_pictures.specs.declared.marks.Mark.{Mark}
+use Rattle.apex_pictures.specs.declared.marks.TheConstants.{MOST_LETTERS}
+use Rattle.apex_pictures.specs.declared.rows.TheConstants.{ROW}
 use Rattle.apex_pictures.specs.declared.rows.Selection.{Selection}
 use Rattle.apex_pictures.specs.declared.svg.TheConstants.{MOST_CALL}
 
@@ -66,11 +69,36 @@ shows columns entry =
     && nat_le entry.number (last_number columns.drawn.items))
     && is_unfolded columns.fold entry
 
--- the frame has room for its columns within its width, and its key is below its rows
+-- the place behind the last column
+abbrev pub behind : Frame → ℕ
+behind frame = frame.left + frame.columns.behind
+
+-- the letters of the longer line of a mark, with the word before it
+abbrev pub mark_letters : Mark → ℕ
+mark_letters mark =
+    max (length (codes "expected: ") + length mark.expected.items)
+    (length (codes "given: ") + length mark.given.items)
+
+-- The frame has room within its width for its columns, and for `MOST_LETTERS` letters of the mark behind
+-- them. Each row and each heading ends above the instants, and the key is below these.
 pub record HasRoom (frame : Frame) : Type 0 where
-  pub columns : frame.left + frame.columns.behind ≤ frame.width
-  pub rows : frame.rows.top ≤ frame.bottom
+  pub columns : behind frame ≤ frame.width
+  pub mark : (mark : Mark) → frame.mark ≡ Some mark
+      → behind frame + 6 + LETTER * min (mark_letters mark) MOST_LETTERS ≤ frame.width
+  pub top : frame.rows.top ≤ frame.bottom
+  pub rows : (p : ℕ) → has_row frame p ≡ true → row_of frame p + ROW ≤ frame.bottom
+  pub headings : (core : ℕ) → core < length frame.rows.headings.items
+      → heading_of frame core + ROW ≤ frame.bottom
   pub key : frame.bottom ≤ frame.foot
+
+-- the letters of the label of a process's row: its id, a blank and its name
+abbrev pub label_letters : Table → ℕ → ℕ
+label_letters table p = length (id_text p) + 1 + length (process_name table p)
+
+-- the label of each row ends left of the columns
+abbrev pub HasLabels : Table → Frame → Type 0
+HasLabels table frame =
+    (p : ℕ) → has_row frame p ≡ true → 20 + LETTER * label_letters table p ≤ frame.left
 
 -- the tag with which the file begins: the size of the picture
 unfoldable pub opening_text : Frame → List ℕ
@@ -310,10 +338,6 @@ column_text table frame entry shown =
     if shows frame.columns entry then
     start_text frame entry.number ++ marks_text table frame entry shown ++ column_end
     else []
-
--- the place behind the last column
-abbrev pub behind : Frame → ℕ
-behind frame = frame.left + frame.columns.behind
 
 -- the mark of a departure behind the last column: a line, the line that the machine expects, and the
 -- line that was given

@@ -80,7 +80,7 @@ fn put_opening(text: &mut Vec<u8>, frame: &Frame) -> Result<(), AllocError>
         text,
         &[
             Part::Plain("<svg xmlns='http://www.w3.org/2000/svg' width='"),
-            Part::Number(u64::from(frame.width)),
+            Part::Number(frame.width),
             Part::Plain("' height='"),
             Part::Number(u64::from(frame.foot) + 24),
             Part::Plain("' font-family='DejaVu Sans, sans-serif' font-size='11'>\n"),

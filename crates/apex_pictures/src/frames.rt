@@ -1,8 +1,11 @@
 //! The places of the columns and of the rows of a picture.
-ghost use Rattle.std.specs.Prelude.{◌≡◌, ◌<◌, ◌≤◌, ◌^◌, IfOk, length, option_map, None, Some};
+ghost use Rattle.std.specs.Prelude.{◌≡◌, ◌<◌, ◌≤◌, ◌^◌, ℕ, IfOk, length, option_map, None, Some};
+ghost use Rattle.apex_machine.specs.table.Table.{Table};
+ghost use Rattle.apex_machine.specs.text.Texts.{process_name};
+ghost use Rattle.apex_types.specs.declared.limits.TheConstants.{MOST_NAME};
 ghost use Rattle.apex_pictures.specs.Axes.{HasColumns};
 ghost use Rattle.apex_pictures.specs.Rows.{HasRows};
-ghost use Rattle.apex_pictures.specs.Svg.{HasRoom, behind, column_place, column_width, has_row, heading_of, row_of};
+ghost use Rattle.apex_pictures.specs.Svg.{HasLabels, HasRoom, behind, column_place, column_width, has_row, heading_of, row_of};
 
 use crate::columns::Columns;
 use crate::excerpts::{Extent, Timed};
@@ -19,7 +22,7 @@ use itoa::Buffer;
 use std::alloc::{AllocError, Global};
 
 /// The least width of a picture: that of its key.
-const LEAST_WIDTH: u32 = 780;
+const LEAST_WIDTH: u64 = 780;
 
 /// The width of a letter.
 const LETTER: u32 = 7;
@@ -38,7 +41,7 @@ pub struct Frame {
     pub rows: Rows,
     /// The mark of a departure, which is drawn behind the last column, if there is one.
     pub mark: Option<Mark>,
-    pub(crate) width: u32,
+    pub(crate) width: u64,
     /// The height at which the rows end.
     pub(crate) bottom: u32,
     /// Where the key begins, below the instants.
@@ -49,14 +52,16 @@ pub struct Frame {
 
 /// The number of letters of the longest name of a process.
 fn longest_name(table: &Table) -> u32
-    ensures { result ≤ 32 }
+    ensures longest { (p : ℕ) → p < length table.now.processes
+        → length (process_name table.now p) ≤ result }
+    ensures range { result ≤ MOST_NAME }
 {
     let mut longest = 0;
     for place in 0..table.process_count() {
         let name = process_name(table, ProcessId::at(place as u8));
         longest = longest.max(name.len());
     }
-    longest.min(32) as u32
+    longest as u32
 }
 
 /// The number of letters of the call and the reply of the entry of this number; 0 if there is none.
@@ -109,8 +114,10 @@ impl Frame {
             (option_map (λ list. list.now) only.entry) frame.rows) }
         ensures unmarked { IfOk result (λ frame. frame.mark ≡ None) }
         ensures room { IfOk result HasRoom }
+        ensures labels { IfOk result (HasLabels kernel.now.table) }
     {
         let table = kernel.table();
+        table.lawful();
         let columns = Columns::new(alloc, kernel, axis, extent)?;
         let longest = longest_call(kernel, columns.drawn.as_slice());
         let top = 20 + RISE * longest;
@@ -122,7 +129,7 @@ impl Frame {
             columns,
             rows,
             mark: None,
-            width: width.max(LEAST_WIDTH),
+            width: u64::from(width).max(LEAST_WIDTH),
             bottom,
             foot: bottom + 40 + RISE * instant_letters(kernel.now()),
             left,
@@ -135,9 +142,9 @@ impl Frame {
         ensures rows { result.rows ≡ self.rows }
         ensures mark { result.mark ≡ Some mark }
         ensures room { HasRoom self → HasRoom result }
+        ensures labels { (table : Table) → HasLabels table self → HasLabels table result }
     {
-        let behind = self.left.saturating_add(self.columns.behind);
-        let width = behind.saturating_add(LETTER * mark.letters() + 30);
+        let width = self.behind() + u64::from(LETTER * mark.letters() + 30);
         self.width = self.width.max(width);
         self.mark = Some(mark);
         self

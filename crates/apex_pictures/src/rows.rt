@@ -3,7 +3,7 @@
 ghost use Rattle.std.specs.Prelude.{◌≡◌, ◌+◌, ◌≤◌, Option, length, option_map};
 ghost use Rattle.arrayvec.specs.ArrayVec.{array_vec_len};
 ghost use Rattle.apex_types.specs.declared.limits.TheConstants.{MOST_CORES, MOST_PROCESSES};
-ghost use Rattle.apex_pictures.specs.Rows.{HasRows, bound_core, core_by, core_of, cores_of, headings_at, heading_at, is_chosen, row_at, rows_at, rows_before, rows_chosen, rows_of_core, selection_of};
+ghost use Rattle.apex_pictures.specs.Rows.{HasRows, bound_core, core_by, core_of, cores_of, headings_at, heading_at, is_chosen, many_chosen, row_at, rows_at, rows_before, rows_chosen, rows_of_core, selection_of};
 
 use apex_configs::Table;
 use apex_types::{
@@ -221,7 +221,9 @@ impl Rows {
 
     /// The number of rows and headings.
     pub(crate) fn lines(&self) -> u32
-        ensures { result ≤ MOST_PROCESSES + MOST_CORES }
+        ensures value { result
+            ≡ many_chosen self.now.chosen.items + length self.now.headings.items }
+        ensures range { result ≤ MOST_PROCESSES + MOST_CORES }
     {
         let rows = self.chosen.iter().filter(|row| **row).count();
         (rows + self.headings.len()) as u32

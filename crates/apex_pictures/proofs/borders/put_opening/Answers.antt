@@ -4,4 +4,4 @@ use Rattle.apex_pictures.proofs.borders.put_opening.Goals as goal
 
 pub returns : goal.returns
 unfolding opening_text
-returns c = rw (c.from.ensures, c.from-2.ensures) at c.put_all.ensures
+returns c = rw c.from.ensures at c.put_all.ensures
