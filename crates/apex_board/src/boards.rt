@@ -2,6 +2,7 @@
 ghost use Rattle.std.specs.Prelude.{◌≡◌, ◌+◌, ◌≤◌, [], None, IfOk, IfSome, MatchOption};
 ghost use Rattle.apex_types.specs.declared.limits.TheConstants.{MOST_CORES};
 ghost use Rattle.apex_board.specs.Boards.{HasPublished, most_readers};
+ghost use Rattle.apex_board.specs.declared.boards.TheConstants.{MOST_READERS};
 
 use crate::access::Access;
 use crate::publishers::Publisher;
@@ -12,6 +13,11 @@ use std::marker::Model;
 
 /// The most readers of a partition (this profile).
 pub const MOST_READERS: u32 = 8;
+
+/// Each limit is the number of this profile.
+pub fn limits_of_the_profile()
+    ensures { MOST_READERS ≡ 8 }
+{}
 
 /// The access to a cell that is not yet one of a partition.
 #[derive(Drop)]

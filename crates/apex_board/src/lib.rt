@@ -9,7 +9,7 @@ mod publishers;
 mod readers;
 mod steps;
 
-pub use boards::{Board, MOST_READERS, NewBoard};
+pub use boards::{Board, MOST_READERS, NewBoard, limits_of_the_profile};
 pub use fronts::Front;
 pub use publishers::Publisher;
 pub use readers::Reader;

@@ -34,6 +34,8 @@ impl Gate for AtOnce {
 
     type Token = ();
 
+    ghost enters = { λ _ _. ⊤ };
+
     ghost does = { λ _ _ _ _ _. ⊤ };
 
     fn enter(&self, _core: CoreId) {}

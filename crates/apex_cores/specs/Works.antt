@@ -36,3 +36,12 @@ pub record HaveBeenDone {T : Type 0} (does : T → ℕ → ℕ → ℕ → T →
   pub entries : List Entry
   pub made : HasMade before entries after
   pub works : AreDone does core (works_begun entries) first last
+
+-- the worker of this seat entered the gate by its core, and the gate did the works of the entries that
+-- were made with the seat, from the token that the entry gave
+pub record HasServed {T : Type 0} (enters : ℕ → T → Type 0) (does : T → ℕ → ℕ → ℕ → T → Type 0)
+    (before after : Spoken) : Type 0 where
+  pub first : T
+  pub last : T
+  pub done : HaveBeenDone does before after first last
+  pub entered : enters done.core first

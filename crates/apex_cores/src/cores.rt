@@ -1,7 +1,7 @@
 //! The worker of one core.
 ghost use Rattle.std.specs.Prelude.{◌≡◌, ◌<◌, MatchOption};
 ghost use Rattle.apex_cores.specs.Runs.{HasRun, IsLast};
-ghost use Rattle.apex_cores.specs.Works.{HaveBeenDone};
+ghost use Rattle.apex_cores.specs.Works.{HasServed, HaveBeenDone};
 
 use crate::gates::{Gate, follow_turn};
 use apex_partition::{Naming, Receipt, Seat, Shared};
@@ -85,7 +85,8 @@ pub fn run_worker<P: Naming, G: Gate, R: Wait>(
     turns: u32,
     gate: &G,
 ) -> CoreReport<P>
-    ensures { HasRun seat turns result.seat result.turns result.full }
+    ensures ran { HasRun seat turns result.seat result.turns result.full }
+    ensures works { HasServed G.enters G.does seat result.seat }
 {
     let mut token = gate.enter(seat.core());
     let report = run_core(rt, shared, seat, turns, gate, &mut token);

@@ -17,8 +17,12 @@ pub trait Gate {
     // work, and the token afterwards.
     ghost does: { Self.Token → ℕ → ℕ → ℕ → Self.Token → Type 0 };
 
+    // The tokens with which the worker of a core may begin.
+    ghost enters: { ℕ → Self.Token → Type 0 };
+
     /// The token with which the worker of this core begins.
-    fn enter(&self, core: CoreId) -> Self::Token;
+    fn enter(&self, core: CoreId) -> Self::Token
+        ensures { enters core result };
 
     /// Does `ticks` units of work of this process on this core. The worker of the core calls it
     /// with no lock held, and takes the core's next turn when it returns.

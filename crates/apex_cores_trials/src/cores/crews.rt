@@ -102,6 +102,8 @@ impl Gate for Crew {
 
     type Token = ();
 
+    ghost enters = { λ _ _. ⊤ };
+
     ghost does = { λ _ _ _ _ _. ⊤ };
 
     fn enter(&self, _core: CoreId) {}

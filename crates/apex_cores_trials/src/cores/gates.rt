@@ -42,6 +42,8 @@ impl Gate for Counter {
 
     type Token = ();
 
+    ghost enters = { λ _ _. ⊤ };
+
     ghost does = { λ _ _ _ _ _. ⊤ };
 
     fn enter(&self, _core: CoreId) {}

@@ -51,6 +51,8 @@ impl Gate for Meeting {
 
     type Token = ();
 
+    ghost enters = { λ _ _. ⊤ };
+
     ghost does = { λ _ _ _ _ _. ⊤ };
 
     fn enter(&self, _core: CoreId) {}
