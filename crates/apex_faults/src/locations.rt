@@ -55,19 +55,12 @@ fn location_of(text: &[u8], rest: &[u8]) -> Location
     location_after(&text[..text.len() - rest.len()])
 }
 
-/// The name of a header or a key is this word, but for blanks and quotes.
+/// The name of a header or a key, without the blanks around it, is this word, or is it in quotes.
 fn is_word(name: &[u8], word: &[u8]) -> bool {
-    let mut name_left = name;
-    let mut word_left = word;
-    'bytes: while let [byte, name @ ..] = name_left {
-        name_left = name;
-        match word_left {
-            [wanted, word @ ..] if *byte == *wanted => word_left = word,
-            _ if matches!(byte, b' ' | b'\t' | b'"' | b'\'') => {}
-            _ => return false,
-        }
+    match name.trim_ascii() {
+        [b'"', quoted @ .., b'"'] | [b'\'', quoted @ .., b'\''] => quoted == word,
+        bare => bare == word,
     }
-    word_left.is_empty()
 }
 
 /// The header of this number that has this word, from where it stands, and the text behind it.
@@ -131,6 +124,7 @@ fn word_in(text: &[u8], place: usize) -> &[u8]
     ensures { length result.now ≤ length text.now }
 {
     let mut rest = match text {
+        [b'"', b'"', b'"', inner @ ..] | [b'\'', b'\'', b'\'', inner @ ..] => inner,
         [b'"' | b'\'', inner @ ..] => inner,
         other => other,
     };

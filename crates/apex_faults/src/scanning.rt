@@ -33,7 +33,18 @@ fn after_string(text: &[u8], quote: u8) -> &[u8]
     rest
 }
 
-/// The text behind a string on several lines, after its first three quotes.
+/// The text behind a quote, if one is at the front.
+fn after_quote(text: &[u8], quote: u8) -> &[u8]
+    ensures { length result.now ≤ length text.now }
+{
+    match text {
+        [first, after @ ..] if *first == quote => after,
+        _ => text,
+    }
+}
+
+/// The text behind a string on several lines, after its first three quotes. Before the three that end
+/// it, it may have one or two of its own.
 fn after_long_string(text: &[u8], quote: u8) -> &[u8]
     ensures { length result.now ≤ length text.now }
 {
@@ -43,7 +54,7 @@ fn after_long_string(text: &[u8], quote: u8) -> &[u8]
             [_, beyond @ ..] if *byte == b'\\' && quote == b'"' => beyond,
             [second, third, beyond @ ..] if *byte == quote && *second == quote && *third == quote =>
                 {
-                    return beyond;
+                    return after_quote(after_quote(beyond, quote), quote);
                 }
             _ => after,
         };
@@ -117,15 +128,28 @@ pub fn after_value(text: &[u8]) -> &[u8]
     rest
 }
 
-/// The bytes of the text up to one of these, and the text from there on.
-fn split_at_byte<'t>(text: &'t [u8], ends: &[u8]) -> (&'t [u8], &'t [u8])
+/// The text from this byte or the end of the line on, whichever comes first. A part of a name in quotes
+/// may have the byte itself.
+fn from_name_end(text: &[u8], end: u8) -> &[u8]
+    ensures { length result.now ≤ length text.now }
+{
+    let mut rest = text;
+    'bytes: while let [byte, after @ ..] = rest {
+        rest = match byte {
+            b'"' | b'\'' => after_string(after, *byte),
+            _ if *byte == end || *byte == b'\n' => return rest,
+            _ => after,
+        };
+    }
+    rest
+}
+
+/// The name at the front, which ends at this byte, and the text from there on.
+fn split_name(text: &[u8], end: u8) -> (&[u8], &[u8])
     ensures { length result.1.now ≤ length text.now }
 {
-    let count = match text.iter().position(|byte| ends.contains(byte)) {
-        Some(count) => count,
-        None => text.len(),
-    };
-    text.split_at(count)
+    let rest = from_name_end(text, end);
+    (&text[..text.len() - rest.len()], rest)
 }
 
 /// The header or the key at the front, or the next one.
@@ -137,7 +161,7 @@ pub fn next_expression(text: &[u8]) -> Option<Expression<'_>>
     match start {
         [] => None,
         [b'[', b'[', inner @ ..] | [b'[', inner @ ..] => {
-            let (name, rest) = split_at_byte(inner, b"]\n");
+            let (name, rest) = split_name(inner, b']');
             Some(Expression {
                 start,
                 name,
@@ -146,7 +170,7 @@ pub fn next_expression(text: &[u8]) -> Option<Expression<'_>>
             })
         }
         [_, _rest @ ..] => {
-            let (name, rest) = split_at_byte(start, b"=\n");
+            let (name, rest) = split_name(start, b'=');
             match rest {
                 [_, value @ ..] => Some(Expression {
                     start,

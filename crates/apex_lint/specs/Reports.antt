@@ -1,5 +1,5 @@
 -- The report on a text: a line or an object of JSON for each remark, and the verdict.
-use Rattle.std.specs.Prelude.{◌≡◌, codes, decimal, ℕ, ◌+◌, zero, suc, nat_lt, ◌==◌, ◌||◌, if◌then◌else◌, List, [], ◌∷◌, ◌++◌, flat_map, length, map, string_bytes, Option, Some, None, Result, Ok, Err}
+use Rattle.std.specs.Prelude.{◌≡◌, codes, decimal, ℕ, ◌+◌, zero, suc, nat_lt, ◌==◌, ◌||◌, if◌then◌else◌, List, [], ◌∷◌, ◌++◌, flat_map, length, map, string_bytes, Option, Some, None, Result, Ok, Err, IfOk}
 use Rattle.std.specs.List.{All, filter}
 use Rattle.apex_json.specs.Strings.{json_text}
 use Rattle.apex_json.specs.declared.Form.TheVariants.{Text, Json}
@@ -9,7 +9,7 @@ use Rattle.apex_table.specs.Reading.{table_of}
 use Rattle.apex_words.specs.declared.subject.Part.TheVariants as part
 use Rattle.apex_faults.specs.Locations.{IsLocationIn}
 use Rattle.apex_faults.specs.declared.Location.{Location}
-use Rattle.apex_remarks.specs.Remarks.{Head, head, heads_by, severity_word}
+use Rattle.apex_remarks.specs.Remarks.{Head, detail, details_of_warnings, head, heads_by, severity_word}
 use Rattle.apex_lint.specs.Terms.{Form, Part, Remark, Report, Subject, TableFault, LintVerdict}
 use Rattle.apex_lint.specs.declared.reports.LintVerdict.TheVariants.{Accepted, Warned, Refused}
 
@@ -154,10 +154,16 @@ abbrev pub verdict_by : Result Table TableFault → List Head → LintVerdict
 verdict_by (Err fault) heads = Refused
 verdict_by (Ok table) heads = verdict_on heads
 
+-- if the text is a table, the remarks have the texts of its warnings
+abbrev pub HaveDetails : List (List ℕ) → List ℕ → List Remark → Type 0
+HaveDetails allowed text remarks =
+    IfOk (table_of text) (λ table. map detail remarks ≡ details_of_warnings allowed table)
+
 -- these are the remarks on the text, each at a place of it
 pub record AreRemarksOn (allowed : List (List ℕ)) (text : List ℕ) (remarks : List Remark) : Type 0 where
   pub heads : map head remarks ≡ heads_by allowed text (table_of text)
   pub places : All (λ (r : Remark). IsLocationIn text r.location) remarks
+  pub details : HaveDetails allowed text remarks
 
 -- a report on the text: its remarks, as the form writes them
 abbrev pub IsReportOn : Form → List ℕ → List (List ℕ) → List ℕ → Report → Type 0

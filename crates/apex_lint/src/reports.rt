@@ -5,7 +5,7 @@ ghost use Rattle.apex_table.specs.Reading.{table_of};
 ghost use Rattle.apex_faults.specs.Locations.{IsLocationIn};
 ghost use Rattle.apex_remarks.specs.Remarks.{head, heads_by};
 ghost use Rattle.apex_lint.specs.Terms.{Remark};
-ghost use Rattle.apex_lint.specs.Reports.{HasALineForEach, IsReportOn, column_member, kind_members, line_member, line_text, lines_text, location_members, location_text, message, middle_members, more_objects_text, next_object_text, object_end, object_front, object_text, objects_text, part_members, place_words, plain_line, quoted, remark_text, report_text, shown_byte, subject_members, verdict_by, verdict_on, mark_text, marks_text, severity_text, said_text, code_text, told_text, step_member, word_member, first_members};
+ghost use Rattle.apex_lint.specs.Reports.{HasALineForEach, HaveDetails, IsReportOn, column_member, kind_members, line_member, line_text, lines_text, location_members, location_text, message, middle_members, more_objects_text, next_object_text, object_end, object_front, object_text, objects_text, part_members, place_words, plain_line, quoted, remark_text, report_text, shown_byte, subject_members, verdict_by, verdict_on, mark_text, marks_text, severity_text, said_text, code_text, told_text, step_member, word_member, first_members};
 
 use apex_faults::Location;
 use apex_json::{Form, put_json};
@@ -437,6 +437,8 @@ fn judge(alloc: Global, allowed: &[&str], text: &[u8]) -> Result<Judgement, Allo
     ensures heads { IfOk result (λ j. map head j.remarks.items
         ≡ heads_by (map (λ w. w.now) allowed.now) text.now (table_of text.now)) }
     ensures places { IfOk result (λ j. All (λ (r : Remark). IsLocationIn text.now r.location)
+        j.remarks.items) }
+    ensures details { IfOk result (λ j. HaveDetails (map (λ w. w.now) allowed.now) text.now
         j.remarks.items) }
     ensures verdict { IfOk result (λ j. j.verdict
         ≡ verdict_by (table_of text.now) (map head j.remarks.items)) }

@@ -1,5 +1,5 @@
 -- The remarks on a text: its faults, or else the warnings about its table.
-use Rattle.std.specs.Prelude.{codes, ℕ, ◌+◌, Bool, not, List, map, Option, Some, Result, Ok, Err}
+use Rattle.std.specs.Prelude.{codes, ℕ, ◌+◌, Bool, not, List, map, string_bytes, Option, Some, Result, Ok, Err}
 use Rattle.std.specs.List.{filter}
 use Rattle.apex_types.specs.declared.calls.Origin.TheVariants.{Init, Script}
 use Rattle.apex_machine.specs.table.Table.{Table}
@@ -8,6 +8,7 @@ use Rattle.apex_words.specs.Subjects.{at_key, at_step, whole}
 use Rattle.apex_words.specs.declared.fault.Section.TheVariants as section
 use Rattle.apex_words.specs.declared.key.Key.TheVariants as key
 use Rattle.apex_faults.specs.Findings.{named_faults}
+use Rattle.apex_remarks.specs.Details.{warning_detail}
 use Rattle.apex_remarks.specs.Terms.{Origin, Place, Remark, Section, Severity, Subject, TableFault, Warning}
 use Rattle.apex_warnings.specs.Objects.{group_section}
 use Rattle.apex_warnings.specs.WarningWords.{is_among, warning_word}
@@ -67,11 +68,20 @@ is_told allowed warning = not (is_among allowed (warning_word warning))
 abbrev pub heads_of_warnings : List (List ℕ) → Table → List Head
 heads_of_warnings allowed table = map warning_head (filter (is_told allowed) (warnings table))
 
--- those of a refused text
+-- the text of a remark behind its place
+abbrev pub detail : Remark → List ℕ
+detail remark = string_bytes remark.detail
+
+-- the texts of the same warnings
+abbrev pub details_of_warnings : List (List ℕ) → Table → List (List ℕ)
+details_of_warnings allowed table =
+    map (warning_detail table) (filter (is_told allowed) (warnings table))
+
+-- what the remarks on a refused text are
 abbrev pub heads_of_faults : List ℕ → List Head
 heads_of_faults text = map fault_head (named_faults text)
 
--- those of a text, by what reading it gives
+-- what those on a text are, by what reading it gives
 abbrev pub heads_by : List (List ℕ) → List ℕ → Result Table TableFault → List Head
 heads_by allowed text (Ok table) = heads_of_warnings allowed table
 heads_by allowed text (Err fault) = heads_of_faults text

@@ -1,10 +1,11 @@
 //! The remarks on a table's text: its faults, or else its warnings.
-ghost use Rattle.std.specs.Prelude.{◌≡◌, map, IfOk};
+ghost use Rattle.std.specs.Prelude.{◌≡◌, map, string_bytes, IfOk};
 ghost use Rattle.std.specs.List.{All, filter};
 ghost use Rattle.apex_faults.specs.Locations.{IsLocationIn};
 ghost use Rattle.apex_faults.specs.declared.Finding.{Finding};
 ghost use Rattle.apex_words.specs.Subjects.{whole};
-ghost use Rattle.apex_remarks.specs.Remarks.{at, fault_head, head, heads_of_faults, heads_of_warnings, is_told, severity_word, step_subject, warning_head, warning_subject};
+ghost use Rattle.apex_remarks.specs.Details.{entry_name, maker_name, name_part, part_and_reason, reason_part, step_and_reason, step_part, text_of, warning_detail};
+ghost use Rattle.apex_remarks.specs.Remarks.{at, detail, details_of_warnings, fault_head, head, heads_of_faults, heads_of_warnings, is_told, severity_word, step_subject, warning_head, warning_subject};
 ghost use Rattle.apex_remarks.specs.Terms.{Remark};
 ghost use Rattle.apex_warnings.specs.Warnings.{warnings};
 
@@ -109,7 +110,9 @@ fn warning_subject(warning: Warning) -> Subject
 }
 
 /// The name of the process that makes the step; no byte if no process makes it.
-fn maker_name(table: &Table, origin: Origin) -> &[u8] {
+fn maker_name(table: &Table, origin: Origin) -> &[u8]
+    ensures { result.now ≡ maker_name table.now origin }
+{
     match origin {
         Origin::Init(_) => &[],
         Origin::Script(process, _) => process_name(table, process),
@@ -117,7 +120,9 @@ fn maker_name(table: &Table, origin: Origin) -> &[u8] {
 }
 
 /// The name of the entry that the warning is about; no byte if it is about none.
-fn entry_name(table: &Table, warning: Warning) -> &[u8] {
+fn entry_name(table: &Table, warning: Warning) -> &[u8]
+    ensures { result.now ≡ entry_name table.now warning }
+{
     match warning {
         Warning::Process(_, process) => process_name(table, process),
         Warning::Step(_, origin) => maker_name(table, origin),
@@ -126,37 +131,68 @@ fn entry_name(table: &Table, warning: Warning) -> &[u8] {
     }
 }
 
-/// The name of the entry that the warning is about, with a space before it, if it is about one.
-fn name_part(alloc: Global, table: &Table, warning: &Warning) -> Result<String, AllocError> {
-    match str::from_utf8(entry_name(table, *warning)) {
-        Ok(name) if !name.is_empty() => format!(in alloc; " \"{name}\""),
-        _ => Ok(String::new(alloc)),
+/// The text of these bytes; no byte if they are none.
+#[tactic(auto, using(crate::proofs::Further::text_stays, crate::proofs::Further::no_text_is_empty))]
+fn text_of(name: &[u8]) -> &str
+    ensures { result.now ≡ text_of name.now }
+{
+    match str::from_utf8(name) {
+        Ok(text) => text,
+        Err(_) => "",
     }
 }
 
-/// The step of the script that a warning is about, and the reason.
+/// The name in quotes, with a space before it; nothing if it has no byte.
+fn name_part(alloc: Global, name: &str) -> Result<String, AllocError>
+    ensures { IfOk result (λ s. string_bytes s ≡ name_part name.now) }
+{
+    if name.is_empty() {
+        return Ok(String::new(alloc));
+    }
+    format!(in alloc; " \"{name}\"")
+}
+
+/// The step of a script that a warning is about; nothing for a step of the init list.
+fn step_part(alloc: Global, origin: Origin) -> Result<String, AllocError>
+    ensures { IfOk result (λ s. string_bytes s ≡ step_part origin) }
+{
+    match origin {
+        Origin::Init(_) => Ok(String::new(alloc)),
+        Origin::Script(_, place) => {
+            let number = u32::from(place) + 1;
+            format!(in alloc; ", step {number}")
+        }
+    }
+}
+
+/// A reason, behind a colon.
+#[tactic(auto, unfolding(crate::specs::Details::reason_part))]
+fn reason_part(alloc: Global, reason: &str) -> Result<String, AllocError>
+    ensures { IfOk result (λ s. string_bytes s ≡ reason_part reason.now) }
+{
+    format!(in alloc; ": {reason}")
+}
+
+/// The step of a script that a warning is about, and the reason.
+#[tactic(auto, unfolding(crate::specs::Details::step_and_reason))]
 fn step_and_reason(
     alloc: Global,
     warning: StepWarning,
     origin: Origin,
-) -> Result<String, AllocError> {
-    let reason = warning.reason();
-    match origin {
-        Origin::Init(_) => format!(in alloc; ": {reason}"),
-        Origin::Script(_, place) => {
-            let number = u32::from(place) + 1;
-            format!(in alloc; ", step {number}: {reason}")
-        }
-    }
+) -> Result<String, AllocError>
+    ensures { IfOk result (λ s. string_bytes s ≡ step_and_reason warning origin) }
+{
+    let step = step_part(alloc, origin)?;
+    let reason = reason_part(alloc, warning.reason())?;
+    format!(in alloc; "{step}{reason}")
 }
 
 /// The part of the entry that a warning is about, and the reason.
-fn part_and_reason(alloc: Global, warning: &Warning) -> Result<String, AllocError> {
+fn part_and_reason(alloc: Global, warning: &Warning) -> Result<String, AllocError>
+    ensures { IfOk result (λ s. string_bytes s ≡ part_and_reason warning.now) }
+{
     match *warning {
-        Warning::Process(warning, _) => {
-            let reason = warning.reason();
-            format!(in alloc; ": {reason}")
-        }
+        Warning::Process(warning, _) => reason_part(alloc, warning.reason()),
         Warning::Step(warning, origin) => step_and_reason(alloc, warning, origin),
         Warning::UnusedObject(_, _) => {
             String::from_str(alloc, ": no step names it, apart from its creation")
@@ -169,8 +205,11 @@ fn part_and_reason(alloc: Global, warning: &Warning) -> Result<String, AllocErro
 }
 
 /// The text of a warning behind its place.
-fn warning_detail(alloc: Global, table: &Table, warning: &Warning) -> Result<String, AllocError> {
-    let name = name_part(alloc, table, warning)?;
+#[tactic(auto, unfolding(crate::specs::Details::warning_detail))]
+fn warning_detail(alloc: Global, table: &Table, warning: &Warning) -> Result<String, AllocError>
+    ensures { IfOk result (λ s. string_bytes s ≡ warning_detail table.now warning.now) }
+{
+    let name = name_part(alloc, text_of(entry_name(table, *warning)))?;
     let rest = part_and_reason(alloc, warning)?;
     format!(in alloc; "{name}{rest}")
 }
@@ -184,6 +223,7 @@ fn remark_of_warning(
 ) -> Result<Remark, AllocError>
     ensures head { IfOk result (λ r. head r ≡ warning_head warning) }
     ensures place { IfOk result (λ r. IsLocationIn text.now r.location) }
+    ensures detail { IfOk result (λ r. detail r ≡ warning_detail table.now warning) }
 {
     let subject = warning_subject(warning);
     Ok(Remark {
@@ -238,6 +278,8 @@ fn remarks_of_warnings(
     ensures heads { IfOk result (λ v. map head v.items ≡ map warning_head warnings.now) }
     ensures places { IfOk result (λ v. All (λ (r : Remark). IsLocationIn text.now r.location)
         v.items) }
+    ensures details { IfOk result (λ v. map detail v.items
+        ≡ map (warning_detail table.now) warnings.now) }
 {
     let mut remarks = Vec::new(alloc);
     for warning in warnings {
@@ -277,6 +319,8 @@ pub fn remarks_on_table(
         ≡ heads_of_warnings (map (λ w. w.now) allowed.now) table.now) }
     ensures places { IfOk result (λ v. All (λ (r : Remark). IsLocationIn text.now r.location)
         v.items) }
+    ensures details { IfOk result (λ v. map detail v.items
+        ≡ details_of_warnings (map (λ w. w.now) allowed.now) table.now) }
 {
     let warnings = told(alloc, table, allowed)?;
     remarks_of_warnings(alloc, text, table, &warnings)

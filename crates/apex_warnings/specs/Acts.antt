@@ -1,6 +1,6 @@
 -- What a call does, as far as a warning asks for it.
-use Rattle.std.specs.Prelude.{ℕ, Bool, true, false, Option, None, Some, option_map, nat_le, nat_lt, ◌==◌, ◌&&◌}
-use Rattle.apex_warnings.specs.Terms.{Act, Call, Message, ObjectCall, Queue}
+use Rattle.std.specs.Prelude.{ℕ, Bool, true, false, Option, None, Some, option_map, nat_le, nat_lt, ◌==◌, ◌&&◌, not}
+use Rattle.apex_warnings.specs.Terms.{Act, Call, Message, ObjectCall, Queue, Timeout}
 use Rattle.apex_warnings.specs.declared.acts.Act.TheVariants as act
 use Rattle.apex_types.specs.declared.calls.BlackboardService.TheVariants.{Display}
 use Rattle.apex_types.specs.declared.calls.BufferService.TheVariants.{Send}
@@ -12,17 +12,24 @@ use Rattle.apex_types.specs.declared.calls.SemaphoreService.TheVariants.{Signal}
 use Rattle.apex_types.specs.declared.calls.TimeCall.TheVariants.{PeriodicWait, Replenish}
 use Rattle.apex_types.specs.Calls.{known}
 use Rattle.apex_machine.specs.declared.records.Queue.TheVariants as queues
+use Rattle.apex_machine.specs.processes.Periods.{is_period_long}
 use Rattle.apex_machine.specs.processes.Queues.{is_queue}
+use Rattle.apex_machine.specs.services.ProcessServices.{delay_ticks, is_infinite}
 
 -- the message has 1 to `length` bytes, so that a buffer or a blackboard of this length takes it
 abbrev pub is_taken : ℕ → Message → Bool
 is_taken length message = nat_le 1 message.length && nat_le message.length length
 
--- the call is START or DELAYED_START of process p
-abbrev pub starts : ℕ → Call → Bool
-starts p (Process (KindService q Start)) = p == q
-starts p (Process (KindService q (DelayedStart timeout))) = p == q
-starts p _ = false
+-- a process of this period may start after the delay: it is finite, and below the period
+abbrev pub is_fit_delay : Option ℕ → Timeout → Bool
+is_fit_delay period delay =
+    not (is_infinite delay) && not (is_period_long period (delay_ticks delay))
+
+-- the call is START of process p, or DELAYED_START with a delay that its period allows
+abbrev pub starts : ℕ → Option ℕ → Call → Bool
+starts p period (Process (KindService q Start)) = p == q
+starts p period (Process (KindService q (DelayedStart delay))) = p == q && is_fit_delay period delay
+starts p period _ = false
 
 -- the call is SET_PRIORITY of process p to 1 or more, and `priority` or less
 abbrev pub lowers : ℕ → ℕ → Call → Bool
@@ -90,7 +97,7 @@ moves_deadline _ = false
 
 -- the call is such an act
 abbrev pub does : Act → Call → Bool
-does (act.Start p) call = starts p call
+does (act.Start p period) call = starts p period call
 does (act.Lower p priority) call = lowers p priority call
 does (act.BindTo core) call = binds_to core call
 does (act.BindAway p cores) call = binds_away p cores call

@@ -13,10 +13,13 @@ use Rattle.apex_machine.specs.table.Table.{Table, process_config}
 abbrev pub has_empty_script : Table → ℕ → Bool
 has_empty_script table p = length (script table p) == 0
 
--- no step of the init list or of another process's script starts it, so it stays dormant, and its
--- own script never runs; the default init list starts those whose key `start` is true
+-- no step of the init list or of another process's script starts it with a delay that it may have, so
+-- it stays dormant, and its own script never runs; the default init list starts those whose key
+-- `start` is true
 abbrev pub is_not_started : Table → ℕ → Bool
-is_not_started table p = not (any_step_outside p (does (act.Start p)) table)
+is_not_started table p =
+    let period = (process_config table p).attributes.period in
+    not (any_step_outside p (does (act.Start p period)) table)
 
 -- its time capacity is longer than its period, so a job can miss a release before its deadline
 abbrev pub has_long_capacity : Table → ℕ → Bool

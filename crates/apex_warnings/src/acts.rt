@@ -1,21 +1,21 @@
 //! What a step does, as far as a warning asks for it.
 ghost use Rattle.std.specs.Prelude.{◌≡◌};
 ghost use Rattle.std.specs.List.{list_any};
-ghost use Rattle.apex_warnings.specs.Acts.{binds_away, binds_to, displays, does, lowers, moves_deadline, queue_used, sends, sets, signals, starts, is_taken, used, waits_for_period};
+ghost use Rattle.apex_warnings.specs.Acts.{binds_away, binds_to, displays, does, is_fit_delay, lowers, moves_deadline, queue_used, sends, sets, signals, starts, is_taken, used, waits_for_period};
 
 use crate::steps::StepCall;
 use apex_machine::Queue;
 use apex_types::{
     BlackboardId, BlackboardService, BufferId, BufferService, Call, CoreId, EventFlagService,
-    EventId, Message, ObjectCall, ProcessId, ProcessService, SemaphoreId, SemaphoreService,
-    TimeCall,
+    EventId, Message, ObjectCall, ProcessId, ProcessService, SemaphoreId, SemaphoreService, Span,
+    TimeCall, Timeout,
 };
 
 /// What a step does, as far as a warning asks for it.
 #[derive(Clone, Copy)]
 pub enum Act {
-    /// It starts the process, at once or after a delay.
-    Start(ProcessId),
+    /// It starts the process of this period, at once or after a delay that the period allows.
+    Start(ProcessId, Option<Span>),
     /// It sets the priority of the process to this one or to a lower one, which is at least 1.
     Lower(ProcessId, u8),
     /// It binds a process to this core.
@@ -44,7 +44,7 @@ impl Act {
         ensures { result ≡ does self.now call }
     {
         match self {
-            Act::Start(process) => starts(*process, call),
+            Act::Start(process, period) => starts(*process, *period, call),
             Act::Lower(process, priority) => lowers(*process, *priority, call),
             Act::BindTo(core) => binds_to(*core, call),
             Act::BindAway(process, cores) => binds_away(*process, *cores, call),
@@ -73,13 +73,28 @@ pub fn is_taken(message: Message, length: u8) -> bool
     message.length >= 1 && message.length <= length
 }
 
-fn starts(process: ProcessId, call: Call) -> bool
-    ensures { result ≡ starts process call }
+/// A process of this period may start after the delay: it is finite, and below the period.
+fn is_fit_delay(period: Option<Span>, delay: Timeout) -> bool
+    ensures { result ≡ is_fit_delay period delay }
+{
+    let ticks = match delay {
+        Timeout::Infinite => return false,
+        Timeout::Poll => 0,
+        Timeout::Ticks(ticks) => ticks,
+    };
+    match period {
+        Some(period) => ticks < period.ticks(),
+        None => true,
+    }
+}
+
+fn starts(process: ProcessId, period: Option<Span>, call: Call) -> bool
+    ensures { result ≡ starts process period call }
 {
     match call {
         Call::Process(ObjectCall::KindService(id, ProcessService::Start)) => process == id,
-        Call::Process(ObjectCall::KindService(id, ProcessService::DelayedStart(_))) => {
-            process == id
+        Call::Process(ObjectCall::KindService(id, ProcessService::DelayedStart(delay))) => {
+            process == id && is_fit_delay(period, delay)
         }
         _ => false,
     }

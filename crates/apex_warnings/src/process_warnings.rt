@@ -14,7 +14,7 @@ use apex_types::{Call, ProcessId, Span, TimeCall};
 pub enum ProcessWarning {
     /// Its script is empty.
     EmptyScript,
-    /// No step of the init list or of another script starts it.
+    /// No step of the init list or of another script starts it with a delay that it may have.
     NotStarted,
     /// Its time capacity is longer than its period.
     CapacityAbovePeriod,
@@ -107,7 +107,9 @@ impl ProcessWarning {
         let calls = steps.script(process);
         match self {
             ProcessWarning::EmptyScript => calls.is_empty(),
-            ProcessWarning::NotStarted => !steps.have_outside(process, &Act::Start(process)),
+            ProcessWarning::NotStarted => {
+                !steps.have_outside(process, &Act::Start(process, attributes.period))
+            }
             ProcessWarning::CapacityAbovePeriod => {
                 is_above(attributes.capacity, attributes.period)
             }

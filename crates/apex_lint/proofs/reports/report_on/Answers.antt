@@ -8,6 +8,6 @@ returns c =
     let facts = c.in_ok-judgement.ensures in (
       facts.verdict ∙ ap (verdict_by (table_of c.args.text.now)) facts.heads,
       c.in_ok-judgement.judgement.remarks.items,
-      record { heads = facts.heads; places = facts.places },
+      record { heads = facts.heads; places = facts.places; details = facts.details },
       c.in_ok-report.ensures ∙ ap (report_text c.args.form c.args.file.now) c.deref.ensures.value,
     )

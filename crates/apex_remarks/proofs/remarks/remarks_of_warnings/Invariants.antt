@@ -1,7 +1,8 @@
 use Rattle.std.proofs.Common.{◌≡◌, ◌++◌, drop, map}
 use Rattle.std.specs.List.{All}
 use Rattle.apex_faults.specs.Locations.{IsLocationIn}
-use Rattle.apex_remarks.specs.Remarks.{head, warning_head}
+use Rattle.apex_remarks.specs.Details.{warning_detail}
+use Rattle.apex_remarks.specs.Remarks.{detail, head, warning_head}
 use Rattle.apex_remarks.specs.Terms.{Remark}
 use Rattle.apex_remarks.proofs.remarks.remarks_of_warnings.Given as goal
 
@@ -11,4 +12,6 @@ invariant-loop-warning l = record {
   heads : map head l.remarks.items ++ map warning_head (drop l.warning-index l.warnings)
       ≡ map warning_head l.warnings;
   places : All (λ (r : Remark). IsLocationIn l.text r.location) l.remarks.items;
+  details : map detail l.remarks.items ++ map (warning_detail l.table) (drop l.warning-index l.warnings)
+      ≡ map (warning_detail l.table) l.warnings;
 }
