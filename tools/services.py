@@ -93,7 +93,9 @@ def faults_of_init_list(shapes, init):
 def faults_of_cases(shapes):
     """The services without a row of cases, or without a line of their word in it."""
     text = "\n".join(file.read_text() for file in sorted((HOME / DATA).glob("*.rows")))
-    parts = dict(re.findall(r"^row (\S+)(.*?)(?=^row |\Z)", text, re.DOTALL | re.MULTILINE))
+    parts = {}
+    for word, part in re.findall(r"^row (\S+)(.*?)(?=^row |\Z)", text, re.DOTALL | re.MULTILINE):
+        parts[word] = parts.get(word, "") + part
     return [
         f"{DATA}: no row of {word} with a line of it"
         for word in shapes
