@@ -104,7 +104,7 @@ module _ (here : Before waited_semaphore) where
   abbrev asks_for : SemaphoreService → Call
   asks_for service = call.Semaphore (KindService s service)
 
-  -- if the value is this one, no process of this roster waits for the semaphore in vain
+  -- no process of this roster waits for the semaphore although it could take it at this value
   abbrev HoldsBack : ℕ → Roster → Type 0
   HoldsBack v = AreHeldBack (waited_semaphore.Lacks here.c v) queue
 

@@ -1,11 +1,11 @@
 -- The laws on which the answers of a search rest. Each holds of every lawful table.
-use Rattle.std.specs.Prelude.{◌≡◌, ℕ, true}
+use Rattle.std.specs.Prelude.{◌≡◌, ℕ, ◌+◌, ◌<◌, Some, true}
 use Rattle.apex_alike.specs.AlikeSteps.{AreAlikeSituations}
 use Rattle.apex_machine.specs.Situations.{deed}
 use Rattle.apex_machine.specs.table.Table.{Table}
 use Rattle.apex_pace.specs.Laws.{IsPace}
 use Rattle.apex_pace.specs.Pace.{Paced, is_allowed, paced_step}
-use Rattle.apex_search.specs.Facts.{has_fact}
+use Rattle.apex_search.specs.Facts.{has_fact, is_age}
 use Rattle.apex_forms.specs.Forms.{canonical_paced, kept_turns, kept_worked}
 use Rattle.apex_recall.specs.Reached.{IsReached}
 use Rattle.apex_explore.specs.Answers.{Says}
@@ -48,3 +48,9 @@ AnswersSay table = (pace : Pace) → IsPace pace → (question : Question) →
     (room : ℕ) (answer : Answer)
     → Says (step_within (choices_of system) (search_step system)) (search_start system) room answer
     → SaysOfSchedules system room answer
+
+-- a response for which a search is asked with more ticks than a period is one of a tick more than the
+-- period
+abbrev pub LongResponsesAreAlike : Type 0
+LongResponsesAreAlike = (ticks period age : ℕ) → period < ticks
+    → is_age ticks (Some period) age ≡ is_age (period + 1) (Some period) age

@@ -10,7 +10,7 @@ mod systems;
 mod worst;
 
 pub use census::{Census, End, Finding};
-pub use laws::{answers_say_of_schedules, forms_stand_for_situations};
+pub use laws::{answers_say_of_schedules, forms_stand_for_situations, long_responses_are_alike};
 pub use questions::Question;
 pub use systems::{TableSystem, Workplace};
 pub use worst::{Slowest, Worst};
