@@ -119,19 +119,25 @@ fn element(text: &[u8], place: usize) -> &[u8]
 }
 
 /// The word at this place of the string at the front, counted from 0; words have a space between
-/// them.
+/// them. If an escape or the end of a line comes before it: the string.
 fn word_in(text: &[u8], place: usize) -> &[u8]
     ensures { length result.now ≤ length text.now }
 {
-    let mut rest = match text {
-        [b'"', b'"', b'"', inner @ ..] | [b'\'', b'\'', b'\'', inner @ ..] => inner,
-        [b'"' | b'\'', inner @ ..] => inner,
-        other => other,
+    let (mut rest, has_escapes) = match text {
+        [b'"', b'"', b'"', inner @ ..] | [b'"', inner @ ..] => (inner, true),
+        [b'\'', b'\'', b'\'', inner @ ..] | [b'\'', inner @ ..] => (inner, false),
+        other => (other, false),
     };
     let mut left = place;
     'bytes: while let [byte, after @ ..] = rest {
-        if left == 0 || *byte == b'\n' {
+        if matches!(*byte, b'\r' | b'\n') {
+            return text;
+        }
+        if left == 0 {
             return rest;
+        }
+        if has_escapes && *byte == b'\\' {
+            return text;
         }
         if *byte == b' ' {
             left -= 1;
