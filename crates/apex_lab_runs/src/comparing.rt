@@ -1,6 +1,6 @@
 //! The comparison of what the runs write with what the files say.
 use crate::desks::{Written, make};
-use crate::runs::Run;
+use crate::runs::{Output, Run};
 use apex_inquiries::Progress;
 use std::alloc::AllocGlobal;
 use std::mem::drop;
@@ -17,10 +17,48 @@ pub struct Counts {
     differing: usize,
 }
 
+/// Whether the text has a part as often as the line says: `times N PART`.
+fn has_times(text: &str, line: &str) -> bool {
+    let said = line.strip_prefix("times ");
+    match said.and_then(|said| said.split_once(' ')) {
+        Some((times, part)) => times.parse::<usize>() == Ok(text.split(part).count() - 1),
+        None => false,
+    }
+}
+
+/// Whether the text has the parts of these lines: that of a line `part PART` behind that of the line
+/// before it, and that of a line `times N PART` N times.
+fn has_parts(text: &str, lines: &str) -> bool {
+    let mut rest = text;
+    for line in lines.lines() {
+        if let Some(part) = line.strip_prefix("part ") {
+            match rest.split_once(part) {
+                Some((_, behind)) => rest = behind,
+                None => return false,
+            }
+        } else if !has_times(text, line) {
+            return false;
+        }
+    }
+    true
+}
+
+/// Whether these bytes were to be written on standard output.
+fn is_output(said: &Output<'_>, written: &[u8]) -> bool {
+    match *said {
+        Output::Whole(text) => text.as_bytes() == written,
+        Output::Prefix(text) => text.as_bytes().starts_with(written),
+        Output::Parts(lines) => match str::from_utf8(written) {
+            Ok(text) => has_parts(text, lines),
+            Err(_) => false,
+        },
+    }
+}
+
 /// Whether the run wrote what its text says, and ended with its status.
 fn is_as_said(run: &Run<'_>, written: &Written) -> bool {
     run.status.parse::<u8>() == Ok(written.status)
-        && run.output.as_bytes() == written.output.held()
+        && is_output(&run.output, written.output.held())
         && run.error.as_bytes() == written.error.held()
 }
 

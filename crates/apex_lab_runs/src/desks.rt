@@ -8,7 +8,7 @@ use std::thread::Threads;
 use std::time::Clock;
 
 /// Room on standard output, in bytes.
-const OUTPUT_ROOM: usize = 65_536;
+const OUTPUT_ROOM: usize = 1_048_576;
 
 /// Room on standard error, in bytes.
 const ERROR_ROOM: usize = 512;
@@ -34,17 +34,27 @@ fn arguments_of(alloc: Global, run: &Run<'_>) -> Result<Vec<String>, AllocError>
     Ok(arguments)
 }
 
-/// A device that holds these bytes.
-fn sheet(alloc: Global, text: &str) -> Result<Counted<FailAt>, AllocError> {
-    let mut bytes = Vec::new(alloc);
-    bytes.extend_from_slice(text.as_bytes())?;
-    Ok(Counted::new(FailAt::new(bytes, 0)))
+/// The numbers of the read and of the call of standard output that fail; 0 if none fails, or if it is
+/// no number.
+fn failing_of(run: &Run<'_>) -> (u64, u64) {
+    let (read, write) = match run.failing {
+        Some(numbers) => numbers.split_once(' ').unwrap_or(("", "")),
+        None => ("", ""),
+    };
+    (read.parse().unwrap_or(0), write.parse().unwrap_or(0))
 }
 
-/// A device with room for this many bytes.
-fn paper(alloc: Global, room: usize) -> Result<Counted<FailAt>, AllocError> {
+/// A device that holds these bytes, and whose call of this number fails.
+fn sheet(alloc: Global, text: &str, failing: u64) -> Result<Counted<FailAt>, AllocError> {
+    let mut bytes = Vec::new(alloc);
+    bytes.extend_from_slice(text.as_bytes())?;
+    Ok(Counted::new(FailAt::new(bytes, failing)))
+}
+
+/// A device with room for this many bytes, whose call of this number fails.
+fn paper(alloc: Global, room: usize, failing: u64) -> Result<Counted<FailAt>, AllocError> {
     let bytes = Vec::with_capacity(alloc, room)?;
-    Ok(Counted::new(FailAt::new(bytes, 0)))
+    Ok(Counted::new(FailAt::new(bytes, failing)))
 }
 
 /// Makes the run, with this input.
@@ -59,9 +69,10 @@ where
 {
     let alloc = rt.alloc();
     let arguments = arguments_of(alloc, run)?;
-    let mut reader = sheet(alloc, input)?;
-    let mut writer = paper(alloc, OUTPUT_ROOM)?;
-    let mut error_writer = paper(alloc, ERROR_ROOM)?;
+    let (failing_read, failing_write) = failing_of(run);
+    let mut reader = sheet(alloc, input, failing_read)?;
+    let mut writer = paper(alloc, OUTPUT_ROOM, failing_write)?;
+    let mut error_writer = paper(alloc, ERROR_ROOM, 0)?;
     let status = serve(
         rt,
         progress,

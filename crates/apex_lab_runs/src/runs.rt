@@ -1,5 +1,16 @@
 //! A run: its arguments, its input, and what it has to write, as a file has them.
 
+/// What a run has to write on standard output.
+#[derive(Clone, Copy)]
+pub enum Output<'a> {
+    /// This text.
+    Whole(&'a str),
+    /// A prefix of this text, which may be the whole.
+    Prefix(&'a str),
+    /// A text with the parts of these lines.
+    Parts(&'a str),
+}
+
 /// A run of the program.
 #[derive(Clone, Copy)]
 pub struct Run<'a> {
@@ -9,12 +20,14 @@ pub struct Run<'a> {
     pub words: &'a str,
     /// One argument more, which may have blanks.
     pub word: Option<&'a str>,
+    /// The numbers of the read and of the call of standard output that fail, with a blank between them.
+    pub failing: Option<&'a str>,
     /// The standard input, with its last line feed. If it is empty, it is that of the run before.
     pub input: &'a str,
     /// The exit status; empty if the text lacks it.
     pub status: &'a str,
     /// What is written on standard output.
-    pub output: &'a str,
+    pub output: Output<'a>,
     /// What is written on standard error.
     pub error: &'a str,
 }
@@ -23,6 +36,25 @@ pub struct Run<'a> {
 fn line_of<'a>(text: &'a str, word: &str) -> Option<(&'a str, &'a str)> {
     let rest = text.strip_prefix(word)?;
     rest.split_once('\n')
+}
+
+/// The rest of the text's first line behind this word, if it begins with it, and what the text has
+/// without that line.
+fn optional_line<'a>(text: &'a str, word: &str) -> (Option<&'a str>, &'a str) {
+    match line_of(text, word) {
+        Some((line, rest)) => (Some(line), rest),
+        None => (None, text),
+    }
+}
+
+/// The status and the output of an answer's lines.
+fn answer_of(lines: &str) -> (&str, Output<'_>) {
+    let (status, text) = line_of(lines, "answer ").unwrap_or(("", ""));
+    match status.split_once(' ') {
+        Some((status, "prefix")) => (status, Output::Prefix(text)),
+        Some((status, "parts")) => (status, Output::Parts(text)),
+        _ => (status, Output::Whole(text)),
+    }
 }
 
 impl<'a> Run<'a> {
@@ -38,15 +70,14 @@ impl<'a> Run<'a> {
         };
         let (title, rest) = front.split_once('\n').unwrap_or((front, ""));
         let (words, rest) = line_of(rest, "words ").unwrap_or(("", rest));
-        let (word, input) = match line_of(rest, "word ") {
-            Some((word, input)) => (Some(word), input),
-            None => (None, rest),
-        };
-        let (status, output) = line_of(answer, "answer ").unwrap_or(("", ""));
+        let (word, rest) = optional_line(rest, "word ");
+        let (failing, input) = optional_line(rest, "fails ");
+        let (status, output) = answer_of(answer);
         Run {
             title,
             words,
             word,
+            failing,
             input,
             status,
             output,
