@@ -1,7 +1,7 @@
 //! A search of a system whose answers are known: two jugs are filled, emptied and poured into each
 //! other until one holds what is wanted.
 ghost use Rattle.std.specs.Prelude.{◌≡◌, ◌≤◌};
-ghost use Rattle.apex_search_trials.specs.Jugs.{poured};
+ghost use Rattle.apex_trials.specs.Jugs.{poured};
 
 use apex_explore::{Answer, NoWatch, System, Taken, explore};
 use std::alloc::{AllocError, Global};
@@ -37,7 +37,7 @@ impl Puzzle {
 
 impl System for Puzzle {
     ghost use Rattle.std.specs.Prelude.{◌≤◌, [], ◌∷◌, slice_index};
-    ghost use Rattle.apex_search_trials.specs.Jugs.{pour};
+    ghost use Rattle.apex_trials.specs.Jugs.{pour};
 
     type Workspace = ();
 
@@ -82,46 +82,32 @@ impl System for Puzzle {
     }
 }
 
-/// What a search is to answer.
-enum Wanted {
-    Found(&'static [u32]),
-    Closed(usize),
-    Full(usize),
+/// The answer for jugs that can hold this much each, if this much is wanted in one of them.
+fn answer_to<R: Abort>(
+    rt: &R,
+    alloc: Global,
+    (small, large, wanted): (u64, u64, u64),
+    room: u32,
+) -> Answer {
+    let puzzle = Puzzle {
+        small,
+        large,
+        wanted,
+    };
+    explore(alloc, &puzzle, room, &mut NoWatch).expect(rt, "memory")
 }
 
-impl Wanted {
-    fn is_in(&self, answer: &Answer) -> bool {
-        match (self, answer) {
-            (Wanted::Found(wanted), Answer::Found(path)) => path.as_slice() == *wanted,
-            (Wanted::Closed(wanted), Answer::Closed { states }) => states == wanted,
-            (Wanted::Full(wanted), Answer::Full { depth }) => depth == wanted,
-            _ => false,
-        }
-    }
+/// The answer is a path of these choices.
+fn has_path(answer: &Answer, choices: &[u32]) -> bool {
+    matches!(answer, Answer::Found(path) if path.as_slice() == choices)
 }
 
-/// How much each jug can hold, what is wanted in one of them, the room for states, and the answer.
-///
 /// With jugs of 3 and 5 it takes six choices to have 4. Jugs of 2 and 6 never hold an odd amount, and
 /// come to eight states. With room for five states the search of the first puzzle ends early.
-static PUZZLES: [(u64, u64, u64, u32, Wanted); 3] = [
-    (3, 5, 4, 1000, Wanted::Found(&[1, 5, 2, 5, 1, 5])),
-    (2, 6, 3, 8, Wanted::Closed(8)),
-    (3, 5, 4, 5, Wanted::Full(1)),
-];
-
-fn answer_to<R: Abort>(rt: &R, alloc: Global, puzzle: &Puzzle, room: u32) -> Answer {
-    explore(alloc, puzzle, room, &mut NoWatch).expect(rt, "memory")
-}
-
 #[test]
 fn jugs_are_poured(rt: HostRuntime) {
-    for (small, large, wanted, room, answer) in &PUZZLES {
-        let puzzle = Puzzle {
-            small: *small,
-            large: *large,
-            wanted: *wanted,
-        };
-        assert!(&rt; answer.is_in(&answer_to(&rt, rt.alloc(), &puzzle, *room)));
-    }
+    let found = answer_to(&rt, rt.alloc(), (3, 5, 4), 1000);
+    assert!(&rt; has_path(&found, &[1, 5, 2, 5, 1, 5]));
+    assert!(&rt; answer_to(&rt, rt.alloc(), (2, 6, 3), 8) == Answer::Closed { states: 8 });
+    assert!(&rt; answer_to(&rt, rt.alloc(), (3, 5, 4), 5) == Answer::Full { depth: 1 });
 }

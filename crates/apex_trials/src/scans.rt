@@ -1,9 +1,5 @@
 //! Nothing is scanned, however many processes wait.
-ghost use Rattle.std.specs.Prelude.{◌≡◌};
-ghost use Rattle.apex_machine.specs.Machine.{opening};
-ghost use Rattle.apex_dispatch.specs.Kernel.{kernel_in};
 
-use apex_configs::Table;
 use apex_dispatch::Kernel;
 use apex_links::Visits;
 use apex_machine::Queue;
@@ -54,7 +50,7 @@ const STEPS: [(&str, &str, &str); 2] = [
     few_and_many!("STOP W2"),
 ];
 
-pub(crate) fn turn_of(rt: &impl Abort, kernel: &mut Kernel<QueueStore>, core: CoreId) {
+fn turn_of(rt: &impl Abort, kernel: &mut Kernel<QueueStore>, core: CoreId) {
     assert!(rt; core.number() < kernel.table().cores());
     assert!(rt; kernel.turn(core).is_ok());
 }
@@ -63,14 +59,6 @@ pub(crate) fn turn_of(rt: &impl Abort, kernel: &mut Kernel<QueueStore>, core: Co
 fn waiting(kernel: &Kernel<QueueStore>) -> u32 {
     let queue = Queue::Semaphore(SemaphoreId::at(0));
     kernel.store().waiting(queue)
-}
-
-/// A kernel of this table before any event.
-pub(crate) fn booted<R: Abort>(rt: &R, alloc: Global, table: Table) -> Kernel<QueueStore>
-    ensures { result ≡ kernel_in table (opening table) result.store }
-{
-    let store = QueueStore::new(alloc, &table).expect(rt, "memory");
-    Kernel::boot(alloc, table, store).expect(rt, "memory")
 }
 
 /// The number of records and nodes at which the store looks in the one turn of the step, by which
@@ -90,7 +78,8 @@ fn visits_of(rt: &impl Abort, kernel: &mut Kernel<QueueStore>, waiters: u32) -> 
 /// The same number for a kernel of this table with n waiters, which is let go.
 fn visits_beside<R: Abort>(rt: &R, alloc: Global, waiters: u32, text: &str) -> u64 {
     let table = read_table(alloc, text.as_bytes()).expect(rt, "the table is lawful");
-    let mut kernel = booted(rt, alloc, table);
+    let store = QueueStore::new(alloc, &table).expect(rt, "memory");
+    let mut kernel = Kernel::boot(alloc, table, store).expect(rt, "memory");
     let visits = visits_of(rt, &mut kernel, waiters);
     drop(kernel);
     visits

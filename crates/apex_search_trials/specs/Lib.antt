@@ -1,3 +1,0 @@
--- What the systems of the tests do.
-pub mod Counters
-pub mod Jugs

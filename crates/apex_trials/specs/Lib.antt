@@ -1,0 +1,2 @@
+-- What the system of a test does.
+pub mod Jugs
