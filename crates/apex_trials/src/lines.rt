@@ -9,8 +9,8 @@ use apex_history::{Counted, print_entry};
 use apex_table::read_table;
 use apex_types::{
     BufferCall, BufferId, BufferService, Call, Caller, CoreId, LentEntry, MOST_CORES, MOST_LINE,
-    MOST_NOTICES, MOST_PROCESSES, MOST_SPAN, Message, Notice, Origin, ProcessId, Reply, ReturnCode,
-    Timeout, Who,
+    MOST_MESSAGE, MOST_NOTICES, MOST_PROCESSES, MOST_SPAN, Message, Notice, Origin, ProcessId,
+    Reply, ReturnCode, Timeout, Who,
 };
 use std::alloc::Global;
 use std::mem::drop;
@@ -56,7 +56,7 @@ fn of_buffer(buffer: BufferId, service: BufferService) -> Call
 fn longest_message() -> Message {
     Message {
         origin: Origin::Script(ProcessId::at(0), 0),
-        length: 64,
+        length: MOST_MESSAGE as u8,
     }
 }
 

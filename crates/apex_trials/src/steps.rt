@@ -13,6 +13,9 @@ process = [{name = "A", priority = 1, script = []}]
 %%
 "#;
 
+/// The room for all that is said, in bytes.
+const ROOM: usize = 128;
+
 /// The number of bytes `x` behind the separator, the text behind them, and what is said on all lines.
 ///
 /// The longest line does not fit into the bytes that are read ahead.
@@ -44,7 +47,7 @@ fn is_said<R: Abort>(rt: &R, alloc: Global, count: usize, behind: &str, want: &s
         .expect(rt, "memory");
     text.extend_from_slice(behind.as_bytes())
         .expect(rt, "memory");
-    let room = Vec::with_capacity(alloc, 128).expect(rt, "memory");
+    let room = Vec::with_capacity(alloc, ROOM).expect(rt, "memory");
     let mut reader = Counted::new(FailAt::new(text, 0));
     let mut writer = Counted::new(FailAt::new(room, 0));
     let end = serve_steps(alloc, Form::Text, &mut reader, &mut writer);
